@@ -1,0 +1,17 @@
+pub mod Limits
+pub mod Judged
+pub mod Term
+pub mod Pattern
+pub mod Rule
+pub mod Step
+pub mod Verdict
+pub mod Node
+pub mod Forest
+pub mod Connect
+pub mod Flat
+pub mod Query
+pub mod Text
+pub mod Tables
+pub mod Frame
+pub mod Run
+pub mod Rows

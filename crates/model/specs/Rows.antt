@@ -1,0 +1,116 @@
+-- Document 01's P rows, computed: one list of inputs with the outputs they must give, and one claim.
+-- Behind P1 to P12 stand rows for the errors that look right (E1 to E5), the end of the input (E6, E7) and a run that goes on (E8).
+use Prim.Native.Nat.{ℕ}
+use Prim.Native.String.{String, _++_}
+use mathlib.Core.List.{List, [], _∷_, map}
+use mathlib.Core.Path.{_≡_, refl}
+use Rattle.model.specs.Text.{bytes}
+use Rattle.model.specs.Run.{output}
+
+-- Node 0 is the leaf o1, 1 the leaf o2, 2 is (o3 o1), 3 is (o3 o2). Rule r7 makes o1 to o2.
+abbrev nodes : String
+nodes = "01000100\n" ++ "01000200\n" ++ "010003010000\n" ++ "010003010001\n"
+
+abbrev r7 : String
+r7 = "0200070100010001000200\n"
+
+-- 0 to 1 by r7, forward, and 2 to 3 by congruence
+abbrev byRule : String
+byRule = "030000000101000701\n"
+
+abbrev byCongruence : String
+byCongruence = "030002000300000000\n"
+
+abbrev tables : String
+tables = nodes ++ r7 ++ byRule ++ byCongruence
+
+-- the offered term (o3 o1), and two that may follow it
+abbrev first : String
+first = "05000301000000000100000000\n"
+
+abbrev second : String
+second = "05000301000000000200010007\n"
+
+-- r9 makes (o5 ?0 ?0) to ?0, and r10 makes (o5 ?0 ?1) to ?0
+abbrev r9 : String
+r9 = "02000901000502" ++ "0000" ++ "0000" ++ "0000\n"
+
+abbrev r10 : String
+r10 = "02000a01000502" ++ "0000" ++ "0001" ++ "0000\n"
+
+pub record Row : Type 0 where
+  pub input : String
+  pub expected : String
+
+abbrev pub rows : List Row
+rows =
+    -- P1 the run of the paper
+    record {
+      input = tables ++ "0400020003\n" ++ first ++ second ++ "06\n";
+      expected = "distance 1\n" ++ "(o3 o1)\n" ++ "(o3 (Rewrite=> r7 o2))\n" ++ "accepted 2\n";
+    }
+    -- P2 query 3, 2
+    ∷ record { input = tables ++ "0400030002\n"; expected = "distance 1\n" ++ "(o3 o2)\n" ++ "(o3 (Rewrite<= r7 o1))\n" }
+    -- P3 query 1, 1
+    ∷ record { input = tables ++ "0400010001\n"; expected = "distance 0\n" ++ "o2\n" }
+    -- P4 query 0, 2: 9
+    ∷ record { input = tables ++ "0400000002\n"; expected = "refused 9 line 8\n" }
+    -- P5 query 0, 4: 8
+    ∷ record { input = tables ++ "0400000004\n"; expected = "refused 8 line 8\n" }
+    -- P6 root o4 in the second term: 17
+    ∷ record { input = tables ++ first ++ "05000401000000000200010007\n" ++ "06\n"; expected = "rejected 17 term 1\n" }
+    -- P7 the mark names r8: 16
+    ∷ record { input = tables ++ first ++ "05000301000000000200010008\n" ++ "06\n"; expected = "rejected 16 term 1\n" }
+    -- P8 only one, unmarked, term
+    ∷ record { input = tables ++ first ++ "06\n"; expected = "accepted 1\n" }
+    -- P9 06 alone: 12
+    ∷ record { input = "06\n"; expected = "rejected 12 term 0\n" }
+    -- P10 the two 03 lines exchanged: 7
+    ∷ record { input = nodes ++ r7 ++ byCongruence ++ byRule; expected = "refused 7 line 6\n" }
+    -- P11 two leaves o1 joined by congruence
+    ∷ record {
+      input = "01000100\n" ++ "01000100\n" ++ "030000000100000000\n" ++ "0400000001\n";
+      expected = "distance 0\n" ++ "o1\n";
+    }
+    -- P12 pattern (o5 ?0 ?0) on (o5 o1 o2): 17
+    ∷ record {
+      input = r9 ++ "05000502000000" ++ "000100000000" ++ "000200000000\n" ++ "05000100010009\n" ++ "06\n";
+      expected = "rejected 17 term 1\n";
+    }
+    -- E1 a binding that carries an earlier step's mark is compared without it
+    ∷ record {
+      input =
+          r7 ++ r9 ++ "05000502000000" ++ "000100000000" ++ "000200000000\n" ++ "05000502000000" ++ "000200010007" ++ "000200000000\n"
+          ++ "05000200010009\n" ++ "06\n";
+      expected = "accepted 3\n";
+    }
+    -- E2 children are compared to the end of the longer list
+    ∷ record {
+      input = r7 ++ "05000302000000" ++ "000100000000" ++ "000100000000\n" ++ "05000301000000" ++ "000200010007\n" ++ "06\n";
+      expected = "rejected 17 term 1\n";
+    }
+    -- E3 and so are the children of a congruence
+    ∷ record {
+      input = "01000100\n" ++ "010003010000\n" ++ "0100030200000000\n" ++ "030001000200000000\n";
+      expected = "refused 7 line 4\n";
+    }
+    -- E4 on a backward step a variable that stands only on the left is bound
+    ∷ record {
+      input = r10 ++ "05000100000000\n" ++ "0500050202000a" ++ "000100000000" ++ "000200000000\n" ++ "06\n";
+      expected = "accepted 2\n";
+    }
+    -- E5 a congruence that only itself would support
+    ∷ record {
+      input = "01000100\n" ++ "010003010000\n" ++ "010003010001\n" ++ "030000000201000701\n" ++ "030001000200000000\n";
+      expected = "refused 7 line 5\n";
+    }
+    -- E6 terms still open at the end, E7 no line feed at the end
+    ∷ record { input = tables ++ first; expected = "refused 2 line 9\n" }
+    ∷ record { input = tables ++ "0400020003"; expected = "refused 1 line 8\n" }
+    -- E8 a refused query, and the run goes on
+    ∷ record { input = tables ++ "0400000002\n" ++ "0400010001\n"; expected = "refused 9 line 8\n" ++ "distance 0\n" ++ "o2\n" }
+    ∷ []
+
+claim : map (λ r. output (bytes (r .input))) rows ≡ map (λ r. bytes (r .expected)) rows
+unfolding output bytes
+claim = refl

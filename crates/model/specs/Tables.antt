@@ -1,0 +1,158 @@
+-- Tables handed in whole, as words: "judged before all else, as their frames would be".
+-- A node is 10 words: operator, count, eight child slots. A rule is 387: number, left items, right items, 64 and 64 slots of
+-- 3 words (kind, variable or operator, count). A connection is 5: current, next, kind, rule, forward, as in its frame.
+-- Slots that a count leaves unused, and a variable's count, play no part.
+use Prim.Native.Nat.{ℕ, zero, suc, _+_, _*_, _/_, _≤_, _<_}
+use mathlib.Core.Bool.{Bool, true, false, not, _&&_, _||_}
+use mathlib.Core.List.{List, [], _∷_, _++_}
+use mathlib.Core.Option.{Option, none, some}
+use lib.Dec.{leb, ltb, eqb}
+use lib.ListN.{length, getD, replicate}
+use Rattle.model.specs.declared.Answer.{Answer}
+use Rattle.model.specs.declared.Answer.the-variants.{Written, Refused}
+use Rattle.model.specs.declared.Connection.{Connection}
+use Rattle.model.specs.declared.Direction.{Direction}
+use Rattle.model.specs.declared.Direction.the-variants.{Forward, Backward}
+use Rattle.model.specs.declared.Justification.{Justification}
+use Rattle.model.specs.declared.Justification.the-variants.{Rule as byRule, Congruence}
+use Rattle.model.specs.declared.Verdict.{Verdict}
+use Rattle.model.specs.declared.Verdict.the-variants.{Accepted, Rejected}
+use Rattle.model.specs.Limits.{childLimit, itemLimit, variableLimit}
+use Rattle.model.specs.Judged.{Judged, good, bad}
+use Rattle.model.specs.Pattern.{Item, variable, operator, Patterns}
+use Rattle.model.specs.Rule.{Rule, side, ruleOf, addRule}
+use Rattle.model.specs.Verdict.{verdict}
+use Rattle.model.specs.Node.{Node, addNode}
+use Rattle.model.specs.Connect.{addConnection}
+use Rattle.model.specs.Query.{Tables, answer, areaAfter}
+
+-- what there is, if a condition holds
+module _ {A : Type 0} where
+  abbrev pub onlyIf : Bool → Option A → Option A
+  onlyIf true a = a
+  onlyIf false a = none
+
+-- a run of words, from a place on
+unfoldable pub wordsFrom : List ℕ → ℕ → ℕ → List ℕ
+wordsFrom ws at zero = []
+wordsFrom ws at (suc n) = getD ws at 0 ∷ wordsFrom ws (suc at) n
+
+-- entry i of a table, if it stands there whole and its fields are in their sets
+unfoldable pub nodeAt : List ℕ → ℕ → Node
+unfolding wordsFrom
+nodeAt ws i = record { op = getD ws (i * 10) 0; kids = wordsFrom ws (i * 10 + 2) (getD ws (i * 10 + 1) 0) }
+
+unfoldable pub nodeEntry : List ℕ → ℕ → Option Node
+unfolding nodeAt
+nodeEntry ws i = onlyIf (leb (i * 10 + 10) (length ws) && leb (getD ws (i * 10 + 1) 0) childLimit) (some (nodeAt ws i))
+
+-- "field outside its set": an item's kind
+abbrev pub itemOf : ℕ → ℕ → ℕ → Option Item
+itemOf zero v n = some (variable v)
+itemOf (suc zero) o n = some (operator o n)
+itemOf (suc (suc k)) v n = none
+
+abbrev pub itemFront : Option Item → Option (List Item) → Option (List Item)
+itemFront none is = none
+itemFront (some i) none = none
+itemFront (some i) (some is) = some (i ∷ is)
+
+unfoldable pub itemsFrom : List ℕ → ℕ → ℕ → Option (List Item)
+itemsFrom ws at zero = some []
+itemsFrom ws at (suc n) = itemFront (itemOf (getD ws at 0) (getD ws (at + 1) 0) (getD ws (at + 2) 0)) (itemsFrom ws (at + 3) n)
+
+abbrev pub sideBy : Bool → Option (List Item) → Option Patterns
+sideBy false is = none
+sideBy true none = none
+sideBy true (some is) = side is
+
+unfoldable pub sideAt : List ℕ → ℕ → ℕ → Option Patterns
+unfolding itemsFrom side
+sideAt ws at n = sideBy (leb n itemLimit) (itemsFrom ws at n)
+
+abbrev pub ruleWords : ℕ
+ruleWords = 387
+
+unfoldable pub ruleEntry : List ℕ → ℕ → Option Rule
+unfolding sideAt
+ruleEntry ws i =
+    let at = i * ruleWords in
+    onlyIf (leb (at + ruleWords) (length ws))
+    (ruleOf (getD ws at 0) (sideAt ws (at + 3) (getD ws (at + 1) 0)) (sideAt ws (at + 195) (getD ws (at + 2) 0)))
+
+-- "kind 1: 0 congruence, 1 rule; rule 2, forward 1; both 0 for congruence"
+abbrev pub directionOf : ℕ → Option Direction
+directionOf zero = some Backward
+directionOf (suc zero) = some Forward
+directionOf (suc (suc f)) = none
+
+abbrev pub ruleWhy : ℕ → Option Direction → Option Justification
+ruleWhy r none = none
+ruleWhy r (some d) = some (byRule (record { 0 = r }) d)
+
+abbrev pub whyOf : ℕ → ℕ → ℕ → Option Justification
+whyOf zero zero zero = some Congruence
+whyOf zero zero (suc f) = none
+whyOf zero (suc r) f = none
+whyOf (suc zero) r f = ruleWhy r (directionOf f)
+whyOf (suc (suc k)) r f = none
+
+abbrev pub connectionOf : ℕ → ℕ → Option Justification → Option Connection
+connectionOf c n none = none
+connectionOf c n (some w) = some (record { current = record { 0 = c }; next = record { 0 = n }; why = w })
+
+unfoldable pub connectionEntry : List ℕ → ℕ → Option Connection
+connectionEntry ws i =
+    onlyIf (leb (i * 5 + 5) (length ws))
+    (connectionOf (getD ws (i * 5) 0) (getD ws (i * 5 + 1) 0)
+    (whyOf (getD ws (i * 5 + 2) 0) (getD ws (i * 5 + 3) 0) (getD ws (i * 5 + 4) 0)))
+
+-- A table, entry by entry; "first bad entry decides". A part of an entry at the end counts as an entry.
+module _ {A E : Type 0} (add : A → Option E → Judged A) (entry : ℕ → Option E) (start : A) where
+  abbrev pub andAdd : Judged A → Option E → Judged A
+  andAdd (bad n) e = bad n
+  andAdd (good a) e = add a e
+
+  unfoldable pub entries : ℕ → Judged A
+  entries zero = good start
+  entries (suc k) = andAdd (entries k) (entry k)
+
+unfoldable pub nodeTable : List ℕ → Judged (List Node)
+unfolding entries nodeEntry addNode
+nodeTable ws = entries addNode (nodeEntry ws) [] ((length ws + 9) / 10)
+
+unfoldable pub ruleTable : List ℕ → Judged (List Rule)
+unfolding entries ruleEntry addRule
+ruleTable ws = entries addRule (ruleEntry ws) [] ((length ws + 386) / 387)
+
+unfoldable pub connectionTable : List Node → List ℕ → Judged (List Connection)
+unfolding entries connectionEntry addConnection
+connectionTable ns ws = entries (addConnection ns) (connectionEntry ws) [] ((length ws + 4) / 5)
+
+-- "nodes, rules, connections; first bad entry decides"
+unfoldable pub tables : List ℕ → List ℕ → List ℕ → Judged Tables
+unfolding nodeTable ruleTable connectionTable
+tables nws rws cws =
+    elim (nodeTable nws) [
+      | bad n ↦ bad n
+      | good ns ↦ elim (ruleTable rws) [
+        | bad n ↦ bad n
+        | good rs ↦ elim (connectionTable ns cws) [
+          | bad n ↦ bad n
+          | good cs ↦ good (record { nodes = ns; rules = rs; conns = cs })
+        ]
+      ]
+    ]
+
+-- "a query or check over bad ones returns that number, otherwise as its own refusals do, place 0"
+abbrev pub answerBy : Judged Tables → ℕ → ℕ → ℕ → Answer
+answerBy (bad n) area l r = Refused n
+answerBy (good t) area l r = answer t area l r
+
+abbrev pub areaOf : Judged Tables → ℕ → ℕ → ℕ → List ℕ
+areaOf (bad n) area l r = replicate area 0
+areaOf (good t) area l r = areaAfter t area l r
+
+abbrev pub verdictBy : Judged Tables → List ℕ → Verdict
+verdictBy (bad n) ws = Rejected n 0
+verdictBy (good t) ws = verdict (t .rules) ws
