@@ -1,0 +1,4 @@
+pub mod Equal
+pub mod Fits
+pub mod Steps
+pub mod Verdicts
