@@ -55,34 +55,37 @@ stripped-same u t h = ap (λ (v : Term). same (strip (one u)) (one v)) (sym h) �
 
 -- a variable that meets a term: before and after
 meet-sound : (o : Option Term) (b : Bound) (x : ℕ) (t : Term) (b′ : Bound) (σ : Substitution) → b x ≡ o → meet o b x t ≡ some b′ → Agrees b′ σ
-  → Agrees b σ × (stripped t ≡ σ x)
+    → Agrees b σ × (stripped t ≡ σ x)
 meet-sound none b x t b′ σ e h a =
-    let q : bind b x t ≡ b′ = cc in
-    (λ y u p. a y u (ap (λ (c : Bound). c y) (sym q) ∙ (bind-other b x t y (apart b x y u e p) ∙ p)),
-    a x t (ap (λ (c : Bound). c x) (sym q) ∙ bind-same b x t))
+    let q : bind b x t ≡ b′ = cc in (
+      λ y u p. a y u (ap (λ (c : Bound). c y) (sym q) ∙ (bind-other b x t y (apart b x y u e p) ∙ p)),
+      a x t (ap (λ (c : Bound). c x) (sym q) ∙ bind-same b x t),
+    )
 meet-sound (some u) b x t b′ σ e h a =
-    let (s, q) = kept _ b b′ h in
-    (λ y v p. a y v (ap (λ (c : Bound). c y) (sym q) ∙ p),
-    sym (stripped-equal u t s) ∙ a x u (ap (λ (c : Bound). c x) (sym q) ∙ e))
+    let (s, q) = kept _ b b′ h in (
+      λ y v p. a y v (ap (λ (c : Bound). c y) (sym q) ∙ p),
+      sym (stripped-equal u t s) ∙ a x u (ap (λ (c : Bound). c x) (sym q) ∙ e),
+    )
 
 meet-complete : (o : Option Term) (b : Bound) (x : ℕ) (t : Term) (σ : Substitution) → b x ≡ o → Agrees b σ → stripped t ≡ σ x
-  → (b′ : Bound) × (meet o b x t ≡ some b′) × Agrees b′ σ
+    → (b′ : Bound) × (meet o b x t ≡ some b′) × Agrees b′ σ
 meet-complete none b x t σ e a p = (bind b x t, refl, agrees)
   where
     agrees : Agrees (bind b x t) σ
     agrees y u h =
         elim (ℕ-discrete y x) [
-          yes q ↦
-            let same-place : bind b x t y ≡ some t = ap (bind b x t) q ∙ bind-same b x t in
-            let term : u ≡ t = cc in
-            ap stripped term ∙ (p ∙ ap σ (sym q))
-        | no q ↦ a y u (sym (bind-other b x t y q) ∙ h) ]
+          | yes q ↦
+              let same-place : bind b x t y ≡ some t = ap (bind b x t) q ∙ bind-same b x t in
+              let term : u ≡ t = cc in
+              ap stripped term ∙ (p ∙ ap σ (sym q))
+          | no q ↦ a y u (sym (bind-other b x t y q) ∙ h)
+        ]
 meet-complete (some u) b x t σ e a p =
     (b, rw (stripped-same u t (a x u e ∙ sym p), keepIf), a)
 
 -- the whole match: the substitutions that agree with what is bound then are those that agreed before and make the patterns the terms
 pub match-sound : (q : Patterns) (f : Terms) (b b′ : Bound) (σ : Substitution) → match q f b ≡ some b′ → Agrees b′ σ
-  → Agrees b σ × (strip f ≡ inst σ q)
+    → Agrees b σ × (strip f ≡ inst σ q)
 unfolding match strip inst
 match-sound noPatterns noTerms b b′ σ h a = let e : b ≡ b′ = cc in ((λ x t p. a x t (ap (λ (c : Bound). c x) (sym e) ∙ p)), refl)
 match-sound noPatterns (tree o m k f) b b′ σ h a = let z : _≡_ {A = ℕ} 0 1 = cc in absurd (omega arith)

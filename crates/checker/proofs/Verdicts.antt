@@ -22,21 +22,22 @@ passed true n k v m h = let z : _≡_ {A = ℕ} 0 1 = cc in absurd (omega arith)
 passed false n k v m h = (refl, h)
 
 pub later-sound : (rs : List Rule) (k : ℕ) (s t : Terms) (v : Verdict) (n : ℕ) → laterVerdict rs k s t v ≡ Accepted n
-  → Later rs s t × (v ≡ Accepted n)
+    → Later rs s t × (v ≡ Accepted n)
 unfolding laterVerdict
 later-sound rs k s t v n h =
     let (a, h₁) = passed (not (someMark isMark t) || (someMark isForward t && someMark isBackward t)) 15 k _ n h in
     let (b, h₂) = passed (nested t) 18 k _ n h₁ in
     let (c, h₃) = passed (unlisted rs t) 16 k _ n h₂ in
     let (d, h₄) = passed (not (step rs s t)) 17 k v n h₃ in
-    let (some-mark, one-way) = neither _ _ a in
-    (record {
-      someMarks = not-false _ some-mark;
-      oneWay = one-way;
-      apart = b;
-      arises = step-sound rs s t (not-false _ d)
-    },
-    h₄)
+    let (some-mark, one-way) = neither _ _ a in (
+      record {
+        someMarks = not-false _ some-mark;
+        oneWay = one-way;
+        apart = b;
+        arises = step-sound rs s t (not-false _ d);
+      },
+      h₄,
+    )
 
 pub later-complete : (rs : List Rule) (k : ℕ) (s t : Terms) (v : Verdict) → Later rs s t → laterVerdict rs k s t v ≡ v
 unfolding laterVerdict

@@ -9,6 +9,7 @@ pub mod Node
 pub mod Forest
 pub mod Connect
 pub mod Flat
+pub mod Premise
 pub mod Query
 pub mod Text
 pub mod Tables
