@@ -4,6 +4,7 @@ pub mod Term
 pub mod Pattern
 pub mod Rule
 pub mod Step
+pub mod Book
 pub mod Verdict
 pub mod Node
 pub mod Forest
