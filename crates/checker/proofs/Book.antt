@@ -11,12 +11,8 @@ use Rattle.model.specs.Pattern.{Instance, inst}
 use Rattle.model.specs.Rule.{Rule, listed}
 use Rattle.model.specs.Step.{ByRule, Allowed, Step, someMark, isForward, isBackward}
 use Rattle.model.specs.Book.{Position, subterm, replace, Rewrites, Rewrites*, done, then}
+use Rattle.terms.proofs.Rows.{strip-strip}
 use Rattle.checker.proofs.Steps.{neither}
-
-strip-twice : (f : Terms) → strip (strip f) ≡ strip f
-unfolding strip
-strip-twice noTerms = refl
-strip-twice (tree o m k s) = λ i. tree o unmarked (strip-twice k i) (strip-twice s i)
 
 many : {rs : List Rule} {s t u : Terms} → Rewrites* rs s t → Rewrites* rs t u → Rewrites* rs s u
 many done q = q
@@ -85,7 +81,7 @@ top rs n x y {s} {s′} b p =
       place = zero ∷ [];
       redex = stripped x;
       contractum = stripped y;
-      fit = record { σ = b .fit .σ; left = strip-twice (one x) ∙ b .fit .left; right = strip-twice (one y) ∙ b .fit .right };
+      fit = record { σ = b .fit .σ; left = strip-strip (one x) ∙ b .fit .left; right = strip-strip (one y) ∙ b .fit .right };
       stands = refl;
       makes = refl;
     })
@@ -163,7 +159,7 @@ step-at rs n r isIn x y fit (tree o m k s) (zero ∷ []) h =
         fit = record {
           σ = fit .σ;
           left = ap (λ (u : Term). strip (one u)) here ∙ fit .left;
-          right = strip-twice (one y) ∙ fit .right;
+          right = strip-strip (one y) ∙ fit .right;
         };
       },
       idle rs s,
@@ -175,10 +171,10 @@ step-at rs n r isIn x y fit (tree o m k s) (suc i ∷ p) h = (refl, idle rs k, s
 strip-replace : (s : Terms) (p : Position) (n : ℕ) (y : Term) → strip (markedAt s p n y) ≡ strip (replace s p y)
 unfolding replace strip
 strip-replace noTerms p n y = refl
-strip-replace (tree o m k s) [] n y = strip-twice (tree o m k s)
-strip-replace (tree o m k s) (zero ∷ []) n y = λ i. tree (y .op) unmarked (strip-twice (y .kids) i) (strip-twice s i)
-strip-replace (tree o m k s) (zero ∷ j ∷ p) n y = λ i. tree o unmarked (strip-replace k (j ∷ p) n y i) (strip-twice s i)
-strip-replace (tree o m k s) (suc j ∷ p) n y = λ i. tree o unmarked (strip-twice k i) (strip-replace s (j ∷ p) n y i)
+strip-replace (tree o m k s) [] n y = strip-strip (tree o m k s)
+strip-replace (tree o m k s) (zero ∷ []) n y = λ i. tree (y .op) unmarked (strip-strip (y .kids) i) (strip-strip s i)
+strip-replace (tree o m k s) (zero ∷ j ∷ p) n y = λ i. tree o unmarked (strip-replace k (j ∷ p) n y i) (strip-strip s i)
+strip-replace (tree o m k s) (suc j ∷ p) n y = λ i. tree o unmarked (strip-strip k i) (strip-replace s (j ∷ p) n y i)
 
 pub rewrite-steps : (rs : List Rule) (s t : Terms) (r : Rewrites rs s t)
     → Step rs s (markedAt s (r .place) (r .number) (r .contractum)) × (strip (markedAt s (r .place) (r .number) (r .contractum)) ≡ strip t)

@@ -10,7 +10,7 @@ use borrow.Author.Tests.{eqb-true, eq-eqb, ne-eqb}
 use Rattle.model.specs.Term.{Mark, unmarked, Terms, noTerms, tree, Term, one, put, strip, stripped, same, sameOp}
 use Rattle.model.specs.Pattern.{Patterns, noPatterns, var, app, Substitution, inst, Instance, Bound, unbound, bind, keepIf, meet, andThen, match, found, fits}
 use native.Mathlib.Decide.{ℕ-discrete}
-use Rattle.checker.proofs.Equal.{equal, same-self}
+use Rattle.terms.proofs.Same.{same-equal}
 
 -- the first term of a row, or a leaf
 abbrev firstOf : Terms → Term
@@ -47,11 +47,11 @@ apart b x y t e h p = let z : _≡_ {A = ℕ} 0 1 = cc in omega arith
 -- terms that are the same, marks aside
 stripped-equal : (u t : Term) → same (strip (one u)) (strip (one t)) ≡ true → stripped u ≡ stripped t
 unfolding strip
-stripped-equal u t h = ap firstOf (equal _ _ h)
+stripped-equal u t h = ap firstOf (same-equal (strip (one u)) (strip (one t)) .0 h)
 
 stripped-same : (u t : Term) → stripped u ≡ stripped t → same (strip (one u)) (strip (one t)) ≡ true
 unfolding strip
-stripped-same u t h = ap (λ (v : Term). same (strip (one u)) (one v)) (sym h) ∙ same-self (strip (one u))
+stripped-same u t h = ap (λ (v : Term). same (strip (one u)) (one v)) (sym h) ∙ same-equal (strip (one u)) (strip (one u)) .1 refl
 
 -- a variable that meets a term: before and after
 meet-sound : (o : Option Term) (b : Bound) (x : ℕ) (t : Term) (b′ : Bound) (σ : Substitution) → b x ≡ o → meet o b x t ≡ some b′ → Agrees b′ σ

@@ -9,8 +9,15 @@ use borrow.Author.Tests.{eqb-true, eq-eqb}
 use Rattle.model.specs.Term.{Mark, unmarked, forward, backward, Terms, noTerms, tree}
 use Rattle.model.specs.Rule.{Rule, listed, isListed}
 use Rattle.model.specs.Step.{ByRule, Allowed, Step, fitsRule, allowed, step, isForward, isBackward, isMark, someMark, nestedIn, nested, namesUnlisted, unlisted}
-use Rattle.checker.proofs.Equal.{both, and}
 use Rattle.checker.proofs.Fits.{fits-instance, instance-fits}
+
+-- both parts of a conjunction
+both : (a b : Bool) → (a && b) ≡ true → (a ≡ true) × (b ≡ true)
+both true b h = (refl, h)
+both false b h = absurd (true≢false (sym h))
+
+and : {a b : Bool} → a ≡ true → b ≡ true → (a && b) ≡ true
+and p q = cc
 
 fits-rule : (rs : List Rule) (n : ℕ) (o : Option Rule) (s t : Terms) → listed rs n ≡ o → fitsRule o s t ≡ true → ByRule rs n s t
 fits-rule rs n none s t e h = absurd (true≢false (sym h))

@@ -7,13 +7,15 @@ use mathlib.Core.Path.{_≡_, refl, sym, _∙_, ap, subst}
 use native.Mathlib.Omega.{arith}
 use borrow.Author.Tests.{ltb-false, le-ltb, not-false}
 use lib.Dec.{ltb}
+use lib.ListN.{length}
 use Rattle.model.specs.declared.Verdict.{Verdict}
 use Rattle.model.specs.declared.Verdict.the-variants.{Accepted, Rejected}
-use Rattle.model.specs.Limits.{termLimit}
-use Rattle.model.specs.Term.{Mark, Terms, noTerms, tree, count}
+use Rattle.model.specs.Limits.{termLimit, wordLimit}
+use Rattle.model.specs.Term.{Mark, Terms, noTerms, tree, count, read}
 use Rattle.model.specs.Rule.{Rule}
 use Rattle.model.specs.Step.{Step, step, someMark, isMark, isForward, isBackward, nested, unlisted}
-use Rattle.model.specs.Verdict.{Later, Chain, Strict, rejectIf, laterVerdict, chainVerdict, termsVerdict}
+use Rattle.model.specs.Verdict.{Later, Chain, Strict, Proves, rejectIf, laterVerdict, chainVerdict, termsVerdict, verdict}
+use Rattle.terms.proofs.Read.{read-words, reads-read}
 use Rattle.checker.proofs.Steps.{step-sound, step-complete, step-listed, neither, nor}
 
 -- what was not rejected comes from behind the test
@@ -75,3 +77,31 @@ unfolding termsVerdict Strict count
 terms-complete rs noTerms s few = absurd s
 terms-complete rs (tree o m k f) s few =
     rw (le-ltb _ _ few, s .0) (chain-complete rs 1 (tree o m k noTerms) f (s .1) ∙ ap Accepted (omega arith))
+
+-- from words to terms
+read-accepted : (rs : List Rule) (o : Option Terms) (n : ℕ) → termsVerdict rs o ≡ Accepted n → (f : Terms) × (o ≡ some f)
+unfolding termsVerdict
+read-accepted rs none n h = let z : _≡_ {A = ℕ} 0 1 = cc in absurd (omega arith)
+read-accepted rs (some f) n h = (f, refl)
+
+pub verdict-sound : (rs : List Rule) (ws : List ℕ) (n : ℕ) → verdict rs ws ≡ Accepted n → Proves rs ws n
+unfolding verdict
+verdict-sound rs ws n h =
+    let (few, h₁) = passed (ltb wordLimit (length ws)) 19 0 _ n h in
+    let (f, e) = read-accepted rs (read ws) n h₁ in
+    let (strict, counted, limit) = terms-sound rs f n (ap (termsVerdict rs) (sym e) ∙ h₁) in
+    record {
+      terms = f;
+      form = read-words ws f e;
+      counted = counted;
+      fewWords = ltb-false _ _ few;
+      fewTerms = limit;
+      strict = strict;
+    }
+
+pub verdict-complete : (rs : List Rule) (ws : List ℕ) (n : ℕ) → Proves rs ws n → verdict rs ws ≡ Accepted n
+unfolding verdict
+verdict-complete rs ws n p =
+    let few : count (p .terms) ≤ termLimit = omega (arith, p .counted, p .fewTerms) in
+    rw (le-ltb _ _ (p .fewWords))
+    (ap (termsVerdict rs) (reads-read ws (p .terms) (p .form)) ∙ (terms-complete rs (p .terms) (p .strict) few ∙ ap Accepted (p .counted)))
