@@ -1,0 +1,119 @@
+-- The marks of what is left of a row, and of the whole.
+-- Assumes nothing.
+use Prim.Native.Nat.{ℕ, zero, suc, _+_, _-_, _*_, _≤_, _<_}
+use mathlib.Core.Bool.{Bool, true, false, _||_, or-assoc, or-false, or-true}
+use borrow.Author.Tests.{ne-eqb}
+use mathlib.Core.List.{List}
+use mathlib.Core.Path.{_≡_, refl, sym, _∙_, ap}
+use lib.Dec.{eqb}
+use lib.ListN.{length, getD}
+use Rattle.model.specs.Term.{Mark, unmarked, forward, backward, Terms, noTerms, tree, join, markWord}
+use Rattle.model.specs.Step.{someMark, isForward, isBackward, isMark, nestedIn, nested}
+use Rattle.marks.specs.declared.Marks.{Marks}
+use Rattle.marks.specs.Marks.{HasRow, withWord, marksOf, MarksIs}
+use Rattle.terms.specs.Place.{RowAt}
+use Rattle.marks.proofs.Left.{Left, left-down, left-none, left-room, left-few}
+
+pub some-join : (p : Mark → Bool) (k s : Terms) → someMark p (join k s) ≡ (someMark p k || someMark p s)
+unfolding someMark join
+some-join p noTerms s = refl
+some-join p (tree o m k r) s =
+    ap (λ (b : Bool). p m || (someMark p k || b)) (some-join p r s)
+    ∙ (ap (λ (b : Bool). p m || b) (sym (or-assoc (someMark p k) (someMark p r) (someMark p s)))
+    ∙ sym (or-assoc (p m) (someMark p k || someMark p r) (someMark p s)))
+
+-- any mark is a forward one or a backward one
+either : (a b c d : Bool) → ((a || b) || (c || d)) ≡ ((a || c) || (b || d))
+either true b c d = refl
+either false true true d = refl
+either false true false d = refl
+either false false c d = refl
+
+pub some-either : (f : Terms) → someMark isMark f ≡ (someMark isForward f || someMark isBackward f)
+unfolding someMark
+some-either noTerms = refl
+some-either (tree o m k s) =
+    (λ i. isMark m || (some-either k i || some-either s i))
+    ∙ (ap (λ (b : Bool). isMark m || b) (either (someMark isForward k) (someMark isBackward k) (someMark isForward s) (someMark isBackward s))
+    ∙ either (isForward m) (isBackward m) (someMark isForward k || someMark isForward s) (someMark isBackward k || someMark isBackward s))
+
+-- what was seen so far with what is left
+abbrev pub merge : Marks → Marks → Marks
+merge a b = record { forward = a .forward || b .forward; backward = a .backward || b .backward }
+
+-- one more node was seen: the same in the end
+module _ (p : Mark → Bool) (a b : Bool) (m : Mark) (k s : Terms) (e : b ≡ p m) where
+  one-more : ((a || b) || someMark p (join k s)) ≡ (a || (p m || (someMark p k || someMark p s)))
+  one-more = (λ i. (a || e i) || some-join p k s i) ∙ or-assoc a (p m) (someMark p k || someMark p s)
+
+forward-word : (m : Mark) → eqb (markWord m) 1 ≡ isForward m
+forward-word unmarked = refl
+forward-word (forward n) = refl
+forward-word (backward n) = refl
+
+backward-word : (m : Mark) → eqb (markWord m) 2 ≡ isBackward m
+backward-word unmarked = refl
+backward-word (forward n) = refl
+backward-word (backward n) = refl
+
+pub seen-down : (a : Marks) (w o : ℕ) (m : Mark) (k s : Terms) → w ≡ markWord m → merge (withWord a w) (marksOf (join k s)) ≡ merge a (marksOf (tree o m k s))
+unfolding someMark
+seen-down a w o m k s e = λ i.
+    record {
+      forward = one-more isForward (a .forward) (eqb w 1) m k s (ap (λ (x : ℕ). eqb x 1) e ∙ forward-word m) i;
+      backward = one-more isBackward (a .backward) (eqb w 2) m k s (ap (λ (x : ℕ). eqb x 2) e ∙ backward-word m) i;
+    }
+
+pub seen-all : (a : Marks) → merge a (marksOf noTerms) ≡ a
+unfolding someMark
+seen-all a = λ i. record { forward = or-false (a .forward) i; backward = or-false (a .backward) i }
+
+-- a mark word by cases
+pub word-forward : (a : Marks) (w : ℕ) → w ≡ 1 → record { forward = true; backward = a .backward } ≡ withWord a w
+word-forward a w e = rw e (λ i. record { forward = sym (or-true (a .forward)) i; backward = sym (or-false (a .backward)) i })
+
+pub word-backward : (a : Marks) (w : ℕ) → w ≡ 2 → record { forward = a .forward; backward = true } ≡ withWord a w
+word-backward a w e = rw e (λ i. record { forward = sym (or-false (a .forward)) i; backward = sym (or-true (a .backward)) i })
+
+pub word-other : (a : Marks) (w : ℕ) → (w ≡ 1 → ⊥) → (w ≡ 2 → ⊥) → a ≡ withWord a w
+word-other a w h h′ =
+    rw (ne-eqb w 1 h, ne-eqb w 2 h′)
+    (λ i. record { forward = sym (or-false (a .forward)) i; backward = sym (or-false (a .backward)) i })
+
+-- where the walk over marks is: what was seen, with the marks of what is left, are the marks of the row
+pub SeenHere : List ℕ → ℕ → ℕ → Marks → ℕ → ℕ → Type 0
+SeenHere ws at n a pos pending = (f : Terms) → RowAt ws at n f → Left ws pos pending (λ g. merge a (marksOf g) ≡ marksOf f)
+
+pub seen-first : (ws : List ℕ) (at n : ℕ) → SeenHere ws at n (record { forward = false; backward = false }) at n
+unfolding SeenHere
+seen-first ws at n f h = record { rest = f; is = h; holds = refl }
+
+module _ (ws : List ℕ) (at n : ℕ) (a : Marks) (pos pending : ℕ) (here : SeenHere ws at n a pos pending) where
+  pub seen-next : 0 < pending → SeenHere ws at n (withWord a (getD ws (pos + 2) 0)) (pos + 4) (pending - 1 + getD ws (pos + 1) 0)
+  unfolding SeenHere
+  seen-next l f h =
+      left-down ws pos (λ g. merge a (marksOf g) ≡ marksOf f) (λ g. merge (withWord a (getD ws (pos + 2) 0)) (marksOf g) ≡ marksOf f) pending
+      (λ o m k s e r p. seen-down a _ o m k s e ∙ p) l (here f h)
+
+  pub seen-done : pending ≡ 0 → MarksIs ws at n a
+  unfolding SeenHere
+  seen-done z f h = sym (seen-all a) ∙ left-none ws pos (λ g. merge a (marksOf g) ≡ marksOf f) pending z (here f h)
+
+  pub seen-room : HasRow ws at n → 0 < pending → pos + 4 ≤ length ws
+  unfolding SeenHere
+  seen-room r l = left-room ws pos _ pending l (here (r .terms) (r .is))
+
+  pub seen-few : HasRow ws at n → 4 * pending ≤ length ws
+  unfolding SeenHere
+  seen-few r = left-few ws pos _ pending (here (r .terms) (r .is))
+
+-- any mark, from the marks of both directions
+pub marked-forward : (m : Marks) (f : Terms) → m ≡ marksOf f → m .forward ≡ true → true ≡ someMark isMark f
+marked-forward m f e h =
+    let p : someMark isForward f ≡ true = cc in
+    sym (some-either f ∙ ap (λ (b : Bool). b || someMark isBackward f) p)
+
+pub marked-backward : (m : Marks) (f : Terms) → m ≡ marksOf f → m .forward ≡ false → m .backward ≡ someMark isMark f
+marked-backward m f e h =
+    let p : someMark isForward f ≡ false = cc in
+    ap (λ (x : Marks). x .backward) e ∙ sym (some-either f ∙ ap (λ (b : Bool). b || someMark isBackward f) p)
