@@ -1,0 +1,250 @@
+"""Document 01 once more, in Python: a second reading, against which the proved code is run. Plain and recursive where that is short; terms are walked flat."""
+import sys
+
+NODES, RULES, CHILDREN, ITEMS, VARIABLES = 2048, 256, 8, 64, 16
+DISTANCE, TERMS, WORDS = 4095, 4096, 1048576
+
+
+class Refused(Exception):
+    def __init__(self, number, place=0):
+        self.number, self.place = number, place
+
+
+# Tables are lists of entries. A node is (operator, [children]); a rule (number, left, right), a side a list of items (0, variable)
+# or (1, operator, count); a connection (current, next, kind, rule, forward), kind 0 for congruence.
+
+def whole_pattern(items):
+    pending = 1
+    if not 1 <= len(items) <= ITEMS:
+        return False
+    for it in items:
+        if pending == 0 or it[0] not in (0, 1):
+            return False
+        if it[0] == 0:
+            if it[1] >= VARIABLES:
+                return False
+            pending -= 1
+        else:
+            if it[2] > CHILDREN:
+                return False
+            pending += it[2] - 1
+    return pending == 0
+
+
+def judge_nodes(nodes):
+    for n, (op, kids) in enumerate(nodes):
+        if len(kids) > CHILDREN:
+            raise Refused(2)
+        if n >= NODES:
+            raise Refused(3)
+        if any(k >= n for k in kids):
+            raise Refused(4)
+
+
+def judge_rules(rules):
+    seen = set()
+    for i, (number, left, right) in enumerate(rules):
+        if not whole_pattern(left) or not whole_pattern(right):
+            raise Refused(2)
+        if i >= RULES:
+            raise Refused(3)
+        bound = {it[1] for it in left if it[0] == 0}
+        if number in seen or any(it[0] == 0 and it[1] not in bound for it in right):
+            raise Refused(5)
+        seen.add(number)
+
+
+class Forest:
+    """The connections in age order, each judged by the older ones."""
+
+    def __init__(self, nodes):
+        self.nodes, self.parent, self.cost, self.root = nodes, {}, [], list(range(len(nodes)))
+
+    def find(self, n):
+        while self.root[n] != n:
+            n = self.root[n]
+        return n
+
+    def joined(self, a, b):
+        return self.find(a) == self.find(b)
+
+    def add(self, c):
+        current, nxt, kind, rule, forward = c
+        if kind > 1 or forward > 1 or (kind == 0 and (rule or forward)):
+            raise Refused(2)
+        size = len(self.nodes)
+        if current >= size or nxt >= size or current == nxt or current in self.parent or self.joined(current, nxt):
+            raise Refused(6)
+        cost = 1
+        if kind == 0:
+            (op, kids), (op2, kids2) = self.nodes[current], self.nodes[nxt]
+            if op != op2 or len(kids) != len(kids2) or any(not self.joined(a, b) for a, b in zip(kids, kids2)):
+                raise Refused(7)
+            cost = sum(self.distance(a, b) for a, b in zip(kids, kids2))
+        self.parent[current] = (nxt, c, len(self.cost))
+        self.cost.append(cost)
+        self.root[self.find(current)] = self.find(nxt)
+
+    def climb(self, n):
+        chain = [n]
+        while chain[-1] in self.parent:
+            chain.append(self.parent[chain[-1]][0])
+        return chain
+
+    def path(self, left, right):
+        """Hops (connection, age, up) from left to right."""
+        a, b = self.climb(left), self.climb(right)
+        place = {n: i for i, n in enumerate(b)}
+        i = next(i for i, n in enumerate(a) if n in place)
+        up = [self.parent[n][1:] + (True,) for n in a[:i]]
+        down = [self.parent[n][1:] + (False,) for n in b[:place[a[i]]]]
+        return up + down[::-1]
+
+    def distance(self, left, right):
+        return sum(self.cost[age] for _, age, _ in self.path(left, right))
+
+
+def judge_tables(nodes, rules, connections):
+    judge_nodes(nodes)
+    judge_rules(rules)
+    forest = Forest(nodes)
+    for c in connections:
+        forest.add(c)
+    return forest
+
+
+def distance(nodes, rules, connections, left, right):
+    forest = judge_tables(nodes, rules, connections)
+    if left >= len(nodes) or right >= len(nodes):
+        raise Refused(8)
+    if not forest.joined(left, right):
+        raise Refused(9)
+    d = forest.distance(left, right)
+    if d > DISTANCE:
+        raise Refused(10)
+    return d
+
+
+# The strict checker, over flat words: four a node (operator, count, mark, rule).
+
+def term_end(words, at):
+    pending = 1
+    while pending:
+        if at + 4 > len(words):
+            return None
+        op, count, mark, rule = words[at:at + 4]
+        if count > CHILDREN or mark > 2 or (mark == 0 and rule):
+            return None
+        pending += count - 1
+        at += 4
+    return at
+
+
+def bare(words, a, e):
+    """A term's words without its marks."""
+    return [w for i in range(a, e, 4) for w in words[i:i + 2]]
+
+
+def match_item(words, items, i, at, bound):
+    """Matches one pattern with one term: where both end, or None."""
+    it = items[i]
+    if it[0] == 0:
+        e = term_end(words, at)
+        here = bare(words, at, e)
+        if bound.setdefault(it[1], here) != here:
+            return None
+        return i + 1, e
+    if words[at] != it[1] or words[at + 1] != it[2]:
+        return None
+    i, at = i + 1, at + 4
+    for _ in range(it[2]):
+        r = match_item(words, items, i, at, bound)
+        if r is None:
+            return None
+        i, at = r
+    return i, at
+
+
+def fits(rule, words, a, b):
+    bound = {}
+    return match_item(words, rule[1], 0, a, bound) is not None and match_item(words, rule[2], 0, b, bound) is not None
+
+
+def step(rules, words, a, b, e):
+    while b < e:
+        mark, rule = words[b + 2], words[b + 3]
+        if mark == 0:
+            if words[a:a + 2] != words[b:b + 2]:
+                return False
+            a, b = a + 4, b + 4
+        else:
+            r = rules[rule]
+            if not (fits(r, words, a, b) if mark == 1 else fits(r, words, b, a)):
+                return False
+            a, b = term_end(words, a), term_end(words, b)
+    return True
+
+
+def check(rules, words):
+    """The count of terms; Refused with number and place otherwise. `rules` are accepted."""
+    listed = {r[0]: r for r in rules}
+    if len(words) > WORDS:
+        raise Refused(19)
+    if not words:
+        raise Refused(12)
+    ends, at = [], 0
+    while at < len(words):
+        at = term_end(words, at)
+        if at is None:
+            raise Refused(13)
+        ends.append(at)
+    if len(ends) > TERMS:
+        raise Refused(19)
+    if any(words[i] for i in range(2, ends[0], 4)):
+        raise Refused(14)
+    before = 0
+    for k in range(1, len(ends)):
+        a, e = ends[k - 1], ends[k]
+        marks = {words[i] for i in range(a + 2, e, 4)} - {0}
+        if len(marks) != 1:
+            raise Refused(15, k)
+        inside = a
+        for i in range(a, e, 4):
+            if words[i + 2]:
+                if i < inside:
+                    raise Refused(18, k)
+                inside = term_end(words, i)
+        if any(words[i + 2] and words[i + 3] not in listed for i in range(a, e, 4)):
+            raise Refused(16, k)
+        if not step(listed, words, before, a, e):
+            raise Refused(17, k)
+        before = a
+    return len(ends)
+
+
+def answer(function, *arguments):
+    """(0, value), or the refusal's number and place."""
+    try:
+        return 0, function(*arguments)
+    except Refused as r:
+        return r.number, r.place
+
+
+# Tables as words, for the library.
+
+def node_words(nodes):
+    return [w for op, kids in nodes for w in [op, len(kids)] + (kids + [0] * 8)[:8]]
+
+
+def rule_words(rules):
+    def slots(side):
+        flat = [w for it in side for w in (list(it) + [0])[:3]]
+        return (flat + [0] * 192)[:192]
+    return [w for number, left, right in rules for w in [number, len(left), len(right)] + slots(left) + slots(right)]
+
+
+def connection_words(connections):
+    return [w for c in connections for w in c]
+
+
+sys.setrecursionlimit(10000)
