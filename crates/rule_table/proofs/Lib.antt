@@ -1,0 +1,5 @@
+pub mod Patterns
+pub mod Slots
+pub mod Sides
+pub mod Passes
+pub mod Entries

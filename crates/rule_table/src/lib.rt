@@ -1,0 +1,139 @@
+// The rule table. An entry is 387 words: its number, how many items its left and its right side have, and 64 slots of three
+// words (kind, variable or operator, count) for each side. Entries are judged one by one, and looked up by their numbers.
+use model::Judgement;
+use model::RuleNo;
+ghost use mathlib.Core.Path.{_≡_};
+ghost use Prim.Native.Nat.{_+_, _*_, _≤_};
+ghost use lib.ListN.{length};
+ghost use Rattle.model.specs.Judged.{judgementOf};
+ghost use Rattle.model.specs.Tables.{ruleWords, sideAt, ruleTable};
+ghost use Rattle.rule_table.specs.Slots.{isSide, itemAt, slotOf, Standing, knownFrom};
+ghost use Rattle.rule_table.specs.Entries.{Accepted, entryOf, withEntry, placeOf};
+
+// Where a rule number is listed.
+pub enum Listed {
+    At(usize),
+    Nowhere,
+}
+
+// What an item slot holds: a variable, an operator with so many children, or a field outside its set.
+pub enum Slot {
+    Variable(usize),
+    Operator(usize),
+    Outside,
+}
+
+// Which entry lists a number: one pass over the numbers, the newest first.
+pub fn find_rule(rules: &[u16], count: usize, number: RuleNo) -> Listed
+    requires { ⌜ count * ruleWords ≤ length (now rules) ⌝ }
+    ensures { λ r. ⌜ r ≡ placeOf (now (rules .entry)) count (number .0) ⌝ }
+{
+    let mut i = count;
+    while 0 < i {
+        i -= 1;
+        if number.0 == rules[i * 387] {
+            return Listed::At(i);
+        }
+    }
+    Listed::Nowhere
+}
+
+// The one place where an item's words are read.
+fn item_at(words: &[u16], at: usize) -> Slot
+    requires { ⌜ at + 3 ≤ length (now words) ⌝ }
+    ensures { λ r. ⌜ r ≡ slotOf (itemAt (now (words .entry)) at) ⌝ }
+{
+    let kind = words[at];
+    let number = words[at + 1] as usize;
+    let count = words[at + 2] as usize;
+    match kind {
+        0 => {
+            if number < 16 {
+                Slot::Variable(number)
+            } else {
+                Slot::Outside
+            }
+        }
+        1 => {
+            if count <= 8 {
+                Slot::Operator(count)
+            } else {
+                Slot::Outside
+            }
+        }
+        _ => Slot::Outside,
+    }
+}
+
+// Whether the first `items` slots from `at` on are one whole pattern of 1 to 64 items: each item that is read takes one
+// from the patterns still to be read, and adds its children.
+fn is_side(words: &[u16], at: usize, items: usize) -> bool
+    requires { ⌜ at + 192 ≤ length (now words) ⌝ }
+    ensures { λ r. ⌜ r ≡ isSide (sideAt (now (words .entry)) at items) ⌝ }
+{
+    if items > 64 {
+        return false;
+    }
+    let mut pos = at;
+    let mut left = items;
+    let mut pending: usize = 1;
+    while 0 < left {
+        if pending == 0 {
+            return false;
+        }
+        let slot = item_at(words, pos);
+        match slot {
+            Slot::Variable(_) => {
+                pending -= 1;
+            }
+            Slot::Operator(count) => {
+                pending = pending - 1 + count;
+            }
+            Slot::Outside => {
+                return false;
+            }
+        }
+        pos += 3;
+        left -= 1;
+    }
+    pending == 0
+}
+
+// Which of the sixteen variables stand in the first `items` slots from `at` on.
+fn variables(words: &[u16], at: usize, items: usize) -> [bool; 16]
+    requires { ⌜ at + items * 3 ≤ length (now words) ⌝ }
+    ensures { λ r. ⌜ Standing (now (words .entry)) at items r ⌝ }
+{
+    let mut on = [false; 16];
+    let mut pos = at;
+    let mut left = items;
+    while 0 < left {
+        let slot = item_at(words, pos);
+        if let Slot::Variable(x) = slot {
+            on[x] = true;
+        }
+        pos += 3;
+        left -= 1;
+    }
+    on
+}
+
+// Whether each variable in the first `items` slots from `at` on is one of those given.
+fn all_known(words: &[u16], at: usize, items: usize, on: [bool; 16]) -> bool
+    requires { ⌜ at + items * 3 ≤ length (now words) ⌝ }
+    ensures { λ r. ⌜ r ≡ knownFrom on (now (words .entry)) at items ⌝ }
+{
+    let mut pos = at;
+    let mut left = items;
+    while 0 < left {
+        let slot = item_at(words, pos);
+        if let Slot::Variable(x) = slot {
+            if !on[x] {
+                return false;
+            }
+        }
+        pos += 3;
+        left -= 1;
+    }
+    true
+}
