@@ -4,7 +4,7 @@ use Prim.Native.Nat.{ℕ, zero, suc, _<_, _≤_}
 use mathlib.Core.Path.{_≡_, refl}
 use mathlib.Core.Bool.{true, false}
 use native.Mathlib.Omega.{arith}
-use lib.Dec.{eqb, eqb·suc-zero}
+use lib.Dec.{leb, eqb, eqb·suc-zero}
 use borrow.Author.Tests.{lt-leb, le-leb}
 use Rattle.model.specs.Term.{markOf}
 use Rattle.terms.specs.Place.{isMark}
@@ -28,16 +28,19 @@ no-mark (suc (suc zero)) r h = absurd (omega arith)
 no-mark (suc (suc (suc m))) r h = refl
 
 returns : tie.Need-returns
-returns c = simp (lt-leb _ _ (c .if1 .taken))
+returns c = simp (lt-leb (c .before .before .args .n .count) 8 (omega arith))
+
+few : (c : tie.Else1) → leb (c .before .before .args .n .count) 8 ≡ true
+few c = le-leb (c .before .before .args .n .count) 8 (omega arith)
 
 returns-2 : tie.Need-returns-2
-returns-2 c = simp (le-leb _ _ (c .before .before .if1 .left), c .before .match .keys1) (no-rule (c .before .before .before .before .args .n .rule .0))
+returns-2 c = simp (few (c .before .before), c .before .match .keys1) (no-rule (c .before .before .before .before .args .n .rule .0))
 
 returns-3 : tie.Need-returns-3
-returns-3 c = simp (le-leb _ _ (c .before .before .if1 .left)) (marked _ _ (c .before .match .rest .1) (c .if2 .taken))
+returns-3 c = simp (few (c .before .before)) (marked _ _ (c .before .match .rest .1) (c .if2 .taken))
 
 returns-4 : tie.Need-returns-4
-returns-4 c = simp (le-leb _ _ (c .before .before .if1 .left)) (no-mark _ _ (c .if2 .left))
+returns-4 c = simp (few (c .before .before)) (no-mark _ _ (c .if2 .left))
 
 pub node-ok-spec : {M : Type 1} → statement M
 node-ok-spec = tie.close (tie.spec returns returns-2 returns-3 returns-4)

@@ -1,0 +1,5 @@
+pub mod Patterns
+pub mod Binding
+pub mod Item
+pub mod Match
+pub mod Fit
