@@ -12,7 +12,7 @@ use Rattle.model.specs.Step.{ByRule, Allowed, Step, fitsRule, allowed, step, is
 use Rattle.checker.proofs.Fits.{fits-instance, instance-fits}
 
 -- both parts of a conjunction
-both : (a b : Bool) → (a && b) ≡ true → (a ≡ true) × (b ≡ true)
+pub both : (a b : Bool) → (a && b) ≡ true → (a ≡ true) × (b ≡ true)
 both true b h = (refl, h)
 both false b h = absurd (true≢false (sym h))
 

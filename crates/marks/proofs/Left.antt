@@ -96,6 +96,7 @@ module _ (ws : List ℕ) (pos : ℕ) (P : Terms → Type 0) where
     pub kids : Terms
     pub behind : Terms
     pub word : getD ws (pos + 2) 0 ≡ markWord mark
+    pub rule : getD ws (pos + 3) 0 ≡ ruleWord mark
     pub row : RowAt ws (pos + 4) (getD ws (pos + 1) 0) kids
     pub holds : P (tree op mark kids behind)
 
@@ -104,7 +105,7 @@ module _ (ws : List ℕ) (pos : ℕ) (P : Terms → Type 0) where
   first n noTerms h p = absurd (omega (arith, h .counted))
   first n (tree o m k s) h p =
       let t = row-tree ws pos n o m k s h in
-      record { op = o; mark = m; kids = k; behind = s; word = t .mark; row = kids-row ws pos n o m k s t; holds = p }
+      record { op = o; mark = m; kids = k; behind = s; word = t .mark; rule = t .rule; row = kids-row ws pos n o m k s t; holds = p }
 
   pub left-first : (n : ℕ) → 0 < n → Left ws pos n P → First n
   left-first zero l h = absurd (omega arith)

@@ -1,0 +1,239 @@
+-- A pair of nodes of a step: what is left behind it steps exactly where the rows do. And the walk over both terms.
+-- Assumes nothing.
+use Prim.Native.Nat.{ℕ, zero, suc, _+_, _-_, _*_, _≤_, _<_}
+use mathlib.Core.Bool.{Bool, true, false, _&&_, and-assoc, true≢false}
+use mathlib.Core.List.{List}
+use mathlib.Core.Path.{_≡_, refl, sym, _∙_, ap, subst, subst₂}
+use native.Mathlib.Omega.{arith}
+use native.Mathlib.Decide.{ℕ-discrete}
+use borrow.Author.Tests.{eqb-false, ne-eqb, eq-eqb, eqb-true}
+use lib.ListN.{length, getD}
+use lib.Dec.{eqb}
+use Rattle.model.specs.Judged.{good}
+use Rattle.model.specs.Term.{Mark, unmarked, forward, backward, markWord, Terms, noTerms, tree, Term, one, count, join, sameOp}
+use Rattle.model.specs.Rule.{Rule}
+use Rattle.model.specs.Step.{allowed, step}
+use Rattle.terms.specs.declared.Node.{Node}
+use Rattle.terms.specs.Place.{nodeOf, sameHead, TermAt, RowAt, Well, EndsAt}
+use Rattle.terms.proofs.Place.{Tree, row-tree, row-room, row-well, row-fits, term-row, end-same}
+use Rattle.terms.proofs.SameWalk.{Heads, heads}
+use Rattle.marks.proofs.Left.{ends}
+use Rattle.rule_table.specs.Entries.{rulesIn, Accepted}
+use Rattle.checker.specs.declared.Pair.{Pair}
+use Rattle.checker.specs.Check.{AllowedIs, Goes, PairOk, PairIs, StepIs}
+use Rattle.checker.proofs.Steps.{both}
+
+-- rows that step have as many terms
+step-count : (rs : List Rule) (f g : Terms) → step rs f g ≡ true → count f ≡ count g
+unfolding step count
+step-count rs noTerms noTerms h = refl
+step-count rs noTerms (tree o m k s) h = absurd (true≢false (sym h))
+step-count rs (tree o m k s) noTerms h = absurd (true≢false (sym h))
+step-count rs (tree o m k s) (tree o′ unmarked k′ s′) h =
+    let (a, b) = both (sameOp o o′) _ h in let (c, d) = both (step rs k k′) _ b in ap suc (step-count rs s s′ d)
+step-count rs (tree o m k s) (tree o′ (forward n) k′ s′) h =
+    let (a, b) = both (allowed rs (forward n) (tree o m k noTerms) (tree o′ (forward n) k′ noTerms)) _ h in ap suc (step-count rs s s′ b)
+step-count rs (tree o m k s) (tree o′ (backward n) k′ s′) h =
+    let (a, b) = both (allowed rs (backward n) (tree o m k noTerms) (tree o′ (backward n) k′ noTerms)) _ h in ap suc (step-count rs s s′ b)
+
+uneven : (rs : List Rule) (f g : Terms) → (count f ≡ count g → ⊥) → step rs f g ≡ false
+uneven rs f g h = go (step rs f g) refl
+  where
+    go : (b : Bool) → step rs f g ≡ b → step rs f g ≡ false
+    go true e = absurd (h (step-count rs f g e))
+    go false e = e
+
+-- rows one behind the other step by parts
+step-join : (rs : List Rule) (k k′ s s′ : Terms) → count k ≡ count k′ → step rs (join k s) (join k′ s′) ≡ (step rs k k′ && step rs s s′)
+unfolding step join count
+step-join rs noTerms noTerms s s′ e = refl
+step-join rs noTerms (tree o m k r) s s′ e = absurd (omega arith)
+step-join rs (tree o m k r) noTerms s s′ e = absurd (omega arith)
+step-join rs (tree o m k r) (tree o′ unmarked k′ r′) s s′ e =
+    ap (λ (b : Bool). sameOp o o′ && (step rs k k′ && b)) (step-join rs r r′ s s′ (omega arith))
+    ∙ (ap (λ (b : Bool). sameOp o o′ && b) (sym (and-assoc (step rs k k′) (step rs r r′) (step rs s s′)))
+    ∙ sym (and-assoc (sameOp o o′) (step rs k k′ && step rs r r′) (step rs s s′)))
+step-join rs (tree o m k r) (tree o′ (forward n) k′ r′) s s′ e =
+    let a = allowed rs (forward n) (tree o m k noTerms) (tree o′ (forward n) k′ noTerms) in
+    ap (λ (b : Bool). a && b) (step-join rs r r′ s s′ (omega arith)) ∙ sym (and-assoc a (step rs r r′) (step rs s s′))
+step-join rs (tree o m k r) (tree o′ (backward n) k′ r′) s s′ e =
+    let a = allowed rs (backward n) (tree o m k noTerms) (tree o′ (backward n) k′ noTerms) in
+    ap (λ (b : Bool). a && b) (step-join rs r r′ s s′ (omega arith)) ∙ sym (and-assoc a (step rs r r′) (step rs s s′))
+
+-- an unmarked node: operator and count agree, and the children go on with the rest; or the rows do not step
+plain-down : (rs : List Rule) (o o′ : ℕ) (m m′ : Mark) (k k′ s s′ : Terms) → markWord m′ ≡ 0 → o ≡ o′ → count k ≡ count k′
+    → step rs (join k s) (join k′ s′) ≡ step rs (tree o m k s) (tree o′ m′ k′ s′)
+unfolding step
+plain-down rs o o′ m unmarked k k′ s s′ z e c = step-join rs k k′ s s′ c ∙ ap (λ (b : Bool). b && (step rs k k′ && step rs s s′)) (sym (eq-eqb o o′ e))
+plain-down rs o o′ m (forward n) k k′ s s′ z e c = absurd (omega arith)
+plain-down rs o o′ m (backward n) k k′ s s′ z e c = absurd (omega arith)
+
+other-op : (rs : List Rule) (o o′ : ℕ) (m m′ : Mark) (k k′ s s′ : Terms) → markWord m′ ≡ 0 → (o ≡ o′ → ⊥) → step rs (tree o m k s) (tree o′ m′ k′ s′) ≡ false
+unfolding step
+other-op rs o o′ m unmarked k k′ s s′ z e = ap (λ (b : Bool). b && (step rs k k′ && step rs s s′)) (ne-eqb o o′ e)
+other-op rs o o′ m (forward n) k k′ s s′ z e = absurd (omega arith)
+other-op rs o o′ m (backward n) k k′ s s′ z e = absurd (omega arith)
+
+falls : (a b c : Bool) → b ≡ false → (a && (b && c)) ≡ false
+falls true b c e = ap (λ (x : Bool). x && c) e
+falls false b c e = refl
+
+other-count : (rs : List Rule) (o o′ : ℕ) (m m′ : Mark) (k k′ s s′ : Terms) → markWord m′ ≡ 0 → (count k ≡ count k′ → ⊥) → step rs (tree o m k s) (tree o′ m′ k′ s′) ≡ false
+unfolding step
+other-count rs o o′ m unmarked k k′ s s′ z c = falls (sameOp o o′) (step rs k k′) (step rs s s′) (uneven rs k k′ c)
+other-count rs o o′ m (forward n) k k′ s s′ z c = absurd (omega arith)
+other-count rs o o′ m (backward n) k k′ s s′ z c = absurd (omega arith)
+
+-- a marked node: what its mark allows, and the rest
+marked-over : (rs : List Rule) (o o′ : ℕ) (m m′ : Mark) (k k′ s s′ : Terms) → (markWord m′ ≡ 0 → ⊥)
+    → step rs (tree o m k s) (tree o′ m′ k′ s′) ≡ (allowed rs m′ (tree o m k noTerms) (tree o′ m′ k′ noTerms) && step rs s s′)
+unfolding step
+marked-over rs o o′ m unmarked k k′ s s′ h = absurd (h refl)
+marked-over rs o o′ m (forward n) k k′ s s′ h = refl
+marked-over rs o o′ m (backward n) k k′ s s′ h = refl
+
+-- where heads differ, operators or counts do
+differ : (x y : Node) → sameHead x y ≡ false → x .op .0 ≡ y .op .0 → x .count ≡ y .count → ⊥
+differ x y e p q =
+    true≢false (sym (ap (λ (b : Bool). b && eqb (x .count) (y .count)) (eq-eqb _ _ p) ∙ eq-eqb _ _ q) ∙ e)
+
+module _ (rs : List Rule) (ws : List ℕ) (i j n : ℕ) where
+  plain : (o o′ : ℕ) (m m′ : Mark) (k k′ s s′ : Terms) → Tree ws i n o m k s → Tree ws j n o′ m′ k′ s′ → getD ws (j + 2) 0 ≡ 0
+      → (b : Bool) → sameHead (nodeOf ws i) (nodeOf ws j) ≡ b
+      → PairOk b rs ws i (record { ok = b; i = i + 4; j = j + 4; more = getD ws (j + 1) 0 }) n (tree o m k s) (tree o′ m′ k′ s′)
+  plain o o′ m m′ k k′ s s′ x y z true e =
+      let h = heads (nodeOf ws i) (nodeOf ws j) e in
+      let c : count k ≡ getD ws (j + 1) 0 = sym (x .kids) ∙ h .count in
+      let c′ : count k′ ≡ getD ws (j + 1) 0 = sym (y .kids) in
+      record {
+        earlier = join k s;
+        later = join k′ s′;
+        isE = rw c at (x .below);
+        isL = rw c′ at (y .below);
+        same = plain-down rs o o′ m m′ k k′ s s′ (sym (y .mark) ∙ z) (sym (x .op) ∙ (h .op ∙ y .op)) (c ∙ sym c′);
+        up = omega arith;
+        within = x .room;
+      }
+  plain o o′ m m′ k k′ s s′ x y z false e =
+      elim (ℕ-discrete o o′) [
+        | yes p ↦
+            other-count rs o o′ m m′ k k′ s s′ (sym (y .mark) ∙ z)
+            (λ c. differ (nodeOf ws i) (nodeOf ws j) e (x .op ∙ (p ∙ sym (y .op))) (x .kids ∙ (c ∙ sym (y .kids))))
+        | no p ↦ other-op rs o o′ m m′ k k′ s s′ (sym (y .mark) ∙ z) p
+      ]
+
+  pub pair-plain : (f g : Terms) → RowAt ws i (suc n) f → RowAt ws j (suc n) g → getD ws (j + 2) 0 ≡ 0 → (b : Bool) → sameHead (nodeOf ws i) (nodeOf ws j) ≡ b
+      → PairOk b rs ws i (record { ok = b; i = i + 4; j = j + 4; more = getD ws (j + 1) 0 }) n f g
+  unfolding count
+  pair-plain noTerms g hf hg z b e = absurd (omega (arith, hf .counted))
+  pair-plain (tree o m k s) noTerms hf hg z b e = absurd (omega (arith, hg .counted))
+  pair-plain (tree o m k s) (tree o′ m′ k′ s′) hf hg z b e =
+      plain o o′ m m′ k k′ s s′ (row-tree ws i n o m k s hf) (row-tree ws j n o′ m′ k′ s′ hg) z b e
+
+  marked : (o o′ : ℕ) (m m′ : Mark) (k k′ s s′ : Terms) → Tree ws i n o m k s → Tree ws j n o′ m′ k′ s′ → (getD ws (j + 2) 0 ≡ 0 → ⊥)
+      → (e e′ : ℕ) → EndsAt ws i e → EndsAt ws j e′ → (b : Bool) → b ≡ allowed rs m′ (tree o m k noTerms) (tree o′ m′ k′ noTerms)
+      → PairOk b rs ws i (record { ok = b; i = e; j = e′; more = 0 }) n (tree o m k s) (tree o′ m′ k′ s′)
+  marked o o′ m m′ k k′ s s′ x y z e e′ h h′ true a =
+      let up = ends ws i e h in
+      let c : 0 + n ≡ n = omega arith in
+      record {
+        earlier = s;
+        later = s′;
+        isE = rw (c, ← end-same ws i (x .stop) e _ (h .term) (x .term) (h .is)) (x .behind);
+        isL = rw (c, ← end-same ws j (y .stop) e′ _ (h′ .term) (y .term) (h′ .is)) (y .behind);
+        same = ap (λ (d : Bool). d && step rs s s′) a ∙ sym (marked-over rs o o′ m m′ k k′ s s′ (λ q. z (y .mark ∙ q)));
+        up = omega (arith, up .up);
+        within = up .within;
+      }
+  marked o o′ m m′ k k′ s s′ x y z e e′ h h′ false a =
+      marked-over rs o o′ m m′ k k′ s s′ (λ q. z (y .mark ∙ q)) ∙ ap (λ (d : Bool). d && step rs s s′) (sym a)
+
+  pub pair-marked : (rws : List ℕ) (count′ : ℕ) → rulesIn rws count′ ≡ good rs → (f g : Terms) → RowAt ws i (suc n) f → RowAt ws j (suc n) g
+      → (getD ws (j + 2) 0 ≡ 0 → ⊥) → (e e′ : ℕ) → EndsAt ws i e → EndsAt ws j e′ → (b : Bool) → AllowedIs rws count′ ws i j b
+      → PairOk b rs ws i (record { ok = b; i = e; j = e′; more = 0 }) n f g
+  unfolding count
+  pair-marked rws c are noTerms g hf hg z e e′ h h′ b a = absurd (omega (arith, hf .counted))
+  pair-marked rws c are (tree o m k s) noTerms hf hg z e e′ h h′ b a = absurd (omega (arith, hg .counted))
+  pair-marked rws c are (tree o m k s) (tree o′ m′ k′ s′) hf hg z e e′ h h′ b a =
+      let x = row-tree ws i n o m k s hf in
+      let y = row-tree ws j n o′ m′ k′ s′ hg in
+      marked o o′ m m′ k k′ s s′ x y z e e′ h h′ b (a rs are (x .stop) (y .stop) _ _ (x .term) (y .term))
+
+-- what is left of the terms t and u steps exactly where they do
+pub record Both (rs : List Rule) (ws : List ℕ) (i j n : ℕ) (t u : Term) : Type 0 where
+  pub earlier : Terms
+  pub later : Terms
+  pub isE : RowAt ws i n earlier
+  pub isL : RowAt ws j n later
+  pub same : step rs earlier later ≡ step rs (one t) (one u)
+
+pub StepHere : List ℕ → ℕ → List ℕ → ℕ → ℕ → ℕ → ℕ → ℕ → Type 0
+StepHere rws count ws a b i j n =
+    (rs : List Rule) → rulesIn rws count ≡ good rs → (e e′ : ℕ) (t u : Term) → TermAt ws a e t → TermAt ws b e′ u → Both rs ws i j n t u
+
+pub step-first : (rws : List ℕ) (c : ℕ) (ws : List ℕ) (a b : ℕ) → StepHere rws c ws a b a b 1
+unfolding StepHere
+step-first rws c ws a b rs are e e′ t u ht hu =
+    record { earlier = one t; later = one u; isE = term-row ws a e t ht; isL = term-row ws b e′ u hu; same = refl }
+
+module _ (rws : List ℕ) (c : ℕ) (ws : List ℕ) (a b i j : ℕ) where
+  pub step-next : (n : ℕ) → StepHere rws c ws a b i j n → 0 < n → (r : Pair) → PairIs rws c ws i j r → r .ok ≡ true
+      → StepHere rws c ws a b (r .i) (r .j) (n - 1 + r .more)
+  unfolding StepHere
+  step-next zero here l r p ok rs are e e′ t u ht hu = absurd (omega arith)
+  step-next (suc n) here l r p ok rs are e e′ t u ht hu =
+      let x = here rs are e e′ t u ht hu in
+      let g : Goes rs ws i r n (x .earlier) (x .later) =
+      subst (λ (o : Bool). PairOk o rs ws i r n (x .earlier) (x .later)) ok (p rs are n (x .earlier) (x .later) (x .isE) (x .isL)) in
+      let m : suc n - 1 + r .more ≡ r .more + n = omega arith in
+      rw m (record { earlier = g .earlier; later = g .later; isE = g .isE; isL = g .isL; same = g .same ∙ x .same })
+
+  pub step-off : (n : ℕ) → StepHere rws c ws a b i j n → 0 < n → (r : Pair) → PairIs rws c ws i j r → r .ok ≡ false → StepIs rws c ws a b false
+  unfolding StepHere
+  step-off zero here l r p ok rs are e e′ t u ht hu = absurd (omega arith)
+  step-off (suc n) here l r p ok rs are e e′ t u ht hu =
+      let x = here rs are e e′ t u ht hu in
+      let g : step rs (x .earlier) (x .later) ≡ false =
+      subst (λ (o : Bool). PairOk o rs ws i r n (x .earlier) (x .later)) ok (p rs are n (x .earlier) (x .later) (x .isE) (x .isL)) in
+      sym g ∙ x .same
+
+  over : (rs : List Rule) (f g : Terms) → RowAt ws i 0 f → RowAt ws j 0 g → step rs f g ≡ true
+  unfolding step count
+  over rs noTerms noTerms hf hg = refl
+  over rs noTerms (tree o m k s) hf hg = absurd (omega (arith, hg .counted))
+  over rs (tree o m k s) g hf hg = absurd (omega (arith, hf .counted))
+
+  pub step-done : StepHere rws c ws a b i j 0 → StepIs rws c ws a b true
+  unfolding StepHere
+  step-done here rs are e e′ t u ht hu =
+      let x = here rs are e e′ t u ht hu in sym (over rs (x .earlier) (x .later) (x .isE) (x .isL)) ∙ x .same
+
+  -- the walk stays within the words, and goes on
+  pub record Ready (n : ℕ) : Type 0 where
+    pub few : 4 * n ≤ length ws
+    pub first : 0 < n → Well ws i
+    pub second : 0 < n → Well ws j
+
+  pub step-ready : (n : ℕ) → StepHere rws c ws a b i j n → Accepted rws c → Well ws a → Well ws b → Ready n
+  unfolding StepHere
+  step-ready zero here k v w = record { few = omega arith; first = λ l. absurd (omega arith); second = λ l. absurd (omega arith) }
+  step-ready (suc n) here k v w =
+      let x = here (k .rules) (k .are) (v .end) (w .end) (v .term) (w .term) (v .is) (w .is) in
+      record {
+        few = row-fits ws i (suc n) (x .earlier) (x .isE);
+        first = λ l. row-well ws i n (x .earlier) (x .isE);
+        second = λ l. row-well ws j n (x .later) (x .isL);
+      }
+
+  pub record Further (r : Pair) : Type 0 where
+    pub up : i < r .i
+    pub within : r .i ≤ length ws
+
+  pub step-further : (n : ℕ) → StepHere rws c ws a b i j n → 0 < n → Accepted rws c → Well ws a → Well ws b → (r : Pair) → PairIs rws c ws i j r → r .ok ≡ true → Further r
+  unfolding StepHere
+  step-further zero here l k v w r p ok = absurd (omega arith)
+  step-further (suc n) here l k v w r p ok =
+      let x = here (k .rules) (k .are) (v .end) (w .end) (v .term) (w .term) (v .is) (w .is) in
+      let g : Goes (k .rules) ws i r n (x .earlier) (x .later) =
+      subst (λ (o : Bool). PairOk o (k .rules) ws i r n (x .earlier) (x .later)) ok (p (k .rules) (k .are) n (x .earlier) (x .later) (x .isE) (x .isL)) in
+      record { up = g .up; within = g .within }

@@ -1,0 +1,77 @@
+-- What the checker's parts answer, over a rule table whose first `count` entries are the rules rs.
+-- Assumes nothing.
+use Prim.Native.Nat.{ℕ, suc, _+_, _≤_, _<_}
+use mathlib.Core.Bool.{Bool, true, false, not, _&&_, _||_}
+use mathlib.Core.List.{List}
+use mathlib.Core.Option.{some}
+use mathlib.Core.Path.{_≡_}
+use lib.ListN.{length}
+use Rattle.model.specs.declared.Verdict.{Verdict}
+use Rattle.model.specs.Judged.{good}
+use Rattle.model.specs.Term.{Mark, markWord, ruleWord, Terms, Term, one}
+use Rattle.model.specs.Pattern.{fits}
+use Rattle.model.specs.Rule.{Rule, listed}
+use Rattle.model.specs.Tables.{ruleEntry}
+use Rattle.model.specs.Step.{fitsRule, allowed, step, namesUnlisted, unlisted}
+use Rattle.model.specs.Verdict.{laterVerdict}
+use Rattle.terms.specs.declared.Node.{Node}
+use Rattle.terms.specs.Place.{TermAt, RowAt}
+use Rattle.rule_table.specs.Entries.{rulesIn}
+use Rattle.checker.specs.declared.Pair.{Pair}
+
+-- r says whether a node's mark names an unlisted rule
+abbrev pub NamesIs : List ℕ → ℕ → Node → Bool → Type 0
+NamesIs rws count n r =
+    (rs : List Rule) → rulesIn rws count ≡ good rs → (m : Mark) → n .mark ≡ markWord m → n .rule .0 ≡ ruleWord m → r ≡ namesUnlisted rs m
+
+-- and whether one in the term at a place does
+abbrev pub UnlistedIs : List ℕ → ℕ → List ℕ → ℕ → Bool → Type 0
+UnlistedIs rws count ws at r =
+    (rs : List Rule) → rulesIn rws count ≡ good rs → (e : ℕ) (t : Term) → TermAt ws at e t → r ≡ unlisted rs (one t)
+
+-- entry i of a table is a rule; and r says whether it makes the term at a its left side and the term at b its right side
+pub record Holds (rws : List ℕ) (i : ℕ) : Type 0 where
+  pub rule : Rule
+  pub said : ruleEntry rws i ≡ some rule
+
+abbrev pub EntryFits : List ℕ → ℕ → List ℕ → ℕ → ℕ → Bool → Type 0
+EntryFits rws i ws a b r =
+    (x : Rule) → ruleEntry rws i ≡ some x → (e e′ : ℕ) (t u : Term) → TermAt ws a e t → TermAt ws b e′ u
+    → r ≡ fits (x .left) (x .right) (one t) (one u)
+
+-- r says whether the rule of a number makes the term at a its left side and the term at b its right side
+abbrev pub FitsIs : List ℕ → ℕ → ℕ → List ℕ → ℕ → ℕ → Bool → Type 0
+FitsIs rws count number ws a b r =
+    (rs : List Rule) → rulesIn rws count ≡ good rs → (e e′ : ℕ) (t u : Term) → TermAt ws a e t → TermAt ws b e′ u
+    → r ≡ fitsRule (listed rs number) (one t) (one u)
+
+-- and whether the mark at the root of the term at j allows it to follow the term at i
+abbrev pub AllowedIs : List ℕ → ℕ → List ℕ → ℕ → ℕ → Bool → Type 0
+AllowedIs rws count ws i j r =
+    (rs : List Rule) → rulesIn rws count ≡ good rs → (e e′ : ℕ) (t u : Term) → TermAt ws i e t → TermAt ws j e′ u
+    → r ≡ allowed rs (u .mark) (one t) (one u)
+
+-- a pair of nodes of a step, in rows f and g of suc n terms: what is left behind it steps exactly where the rows do
+pub record Goes (rs : List Rule) (ws : List ℕ) (i : ℕ) (r : Pair) (n : ℕ) (f g : Terms) : Type 0 where
+  pub earlier : Terms
+  pub later : Terms
+  pub isE : RowAt ws (r .i) (r .more + n) earlier
+  pub isL : RowAt ws (r .j) (r .more + n) later
+  pub same : step rs earlier later ≡ step rs f g
+  pub up : i < r .i
+  pub within : r .i ≤ length ws
+
+abbrev pub PairOk : Bool → List Rule → List ℕ → ℕ → Pair → ℕ → Terms → Terms → Type 0
+PairOk true rs ws i r n f g = Goes rs ws i r n f g
+PairOk false rs ws i r n f g = step rs f g ≡ false
+
+abbrev pub PairIs : List ℕ → ℕ → List ℕ → ℕ → ℕ → Pair → Type 0
+PairIs rws count ws i j r =
+    (rs : List Rule) → rulesIn rws count ≡ good rs → (n : ℕ) (f g : Terms) → RowAt ws i (suc n) f → RowAt ws j (suc n) g
+    → PairOk (r .ok) rs ws i r n f g
+
+-- r says whether the term at b is a step from the term at a
+abbrev pub StepIs : List ℕ → ℕ → List ℕ → ℕ → ℕ → Bool → Type 0
+StepIs rws count ws a b r =
+    (rs : List Rule) → rulesIn rws count ≡ good rs → (e e′ : ℕ) (t u : Term) → TermAt ws a e t → TermAt ws b e′ u
+    → r ≡ step rs (one t) (one u)
