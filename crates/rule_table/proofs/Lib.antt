@@ -3,3 +3,5 @@ pub mod Slots
 pub mod Sides
 pub mod Passes
 pub mod Entries
+pub mod Judged
+pub mod Whole

@@ -3,7 +3,7 @@
 use model::Judgement;
 use model::RuleNo;
 ghost use mathlib.Core.Path.{_≡_};
-ghost use Prim.Native.Nat.{_+_, _*_, _≤_};
+ghost use Prim.Native.Nat.{_+_, _*_, _≤_, min};
 ghost use lib.ListN.{length};
 ghost use Rattle.model.specs.Judged.{judgementOf};
 ghost use Rattle.model.specs.Tables.{ruleWords, sideAt, ruleTable};
@@ -136,4 +136,61 @@ fn all_known(words: &[u16], at: usize, items: usize, on: [bool; 16]) -> bool
         left -= 1;
     }
     true
+}
+
+// Judges one entry behind the `count` accepted ones of `rules`: 2, 3, 5, the lowest number first.
+pub fn judge_rule(rules: &[u16], count: usize, entry: &[u16]) -> Judgement
+    requires { ⌜ Accepted (now rules) count ⌝ }
+    ensures { λ r. ⌜ r ≡ judgementOf (withEntry (now (rules .entry)) count (entryOf (now (entry .entry)))) ⌝ }
+{
+    if entry.len() != 387 {
+        return Judgement::Faulty(2);
+    }
+    let left = entry[1] as usize;
+    let right = entry[2] as usize;
+    if !is_side(entry, 3, left) {
+        return Judgement::Faulty(2);
+    }
+    if !is_side(entry, 195, right) {
+        return Judgement::Faulty(2);
+    }
+    if count >= 256 {
+        return Judgement::Faulty(3);
+    }
+    let found = find_rule(rules, count, RuleNo(entry[0]));
+    if let Listed::At(_) = found {
+        return Judgement::Faulty(5);
+    }
+    let on = variables(entry, 3, left);
+    if !all_known(entry, 195, right, on) {
+        return Judgement::Faulty(5);
+    }
+    Judgement::Taken
+}
+
+// Where the entry that starts at `pos` ends: 387 words on, or with the table.
+fn entry_end(len: usize, pos: usize) -> usize
+    requires { ⌜ pos ≤ len ⌝ }
+    ensures { λ r. ⌜ r ≡ min (pos + ruleWords) len ⌝ }
+{
+    if len - pos < 387 { len } else { pos + 387 }
+}
+
+// Judges a whole table, entry by entry: the first bad one decides. A part of an entry at the end has the wrong length.
+pub fn judge_rules(rules: &[u16]) -> Judgement
+    ensures { λ r. ⌜ r ≡ judgementOf (ruleTable (now (rules .entry))) ⌝ }
+{
+    let len = rules.len();
+    let mut count: usize = 0;
+    let mut pos: usize = 0;
+    while pos < len {
+        let end = entry_end(len, pos);
+        let judged = judge_rule(rules, count, &rules[pos..end]);
+        if let Judgement::Faulty(n) = judged {
+            return Judgement::Faulty(n);
+        }
+        count += 1;
+        pos = end;
+    }
+    Judgement::Taken
 }
