@@ -15,11 +15,12 @@ use Rattle.model.specs.Limits.{itemLimit, ruleLimit}
 use Rattle.model.specs.Pattern.{Patterns, bound}
 use Rattle.model.specs.Judged.{good, refuseIf, judgementOf}
 use Rattle.model.specs.Rule.{Rule, listed, isListed, ruleOf, addRule}
-use Rattle.model.specs.Tables.{sideAt, ruleWords, ruleEntry}
+use Rattle.model.specs.Tables.{sideAt, ruleWords}
 use Rattle.rule_table.specs.declared.Listed.the-variants.{At, Nowhere}
 use Rattle.rule_table.specs.Slots.{isSide, Standing, knownFrom}
 use Rattle.rule_table.specs.Entries.{Accepted, entryOf, withEntry, placeOf}
 use Rattle.rule_table.proofs.Sides.{side-is, known-bound}
+use Rattle.rule_table.proofs.Parts.{entry-alone}
 use Rattle.rule_table.proofs.Entries.{rules-length, rule-found, rule-nowhere}
 
 -- the sides of an entry by itself
@@ -29,11 +30,7 @@ leftOf es = sideAt es 3 (getD es 1 0)
 abbrev pub rightOf : List ℕ → Option Patterns
 rightOf es = sideAt es 195 (getD es 2 0)
 
--- an entry of the right length is a rule where it has two sides
-pub alone : (es : List ℕ) → length es ≡ ruleWords → entryOf es ≡ ruleOf (getD es 0 0) (leftOf es) (rightOf es)
-unfolding entryOf ruleEntry
-alone es h = rw h
-
+-- an entry of another length is none
 pub other-length : (es : List ℕ) → (length es ≡ ruleWords → ⊥) → entryOf es ≡ none
 unfolding entryOf
 other-length es h = rw (ne-eqb (length es) ruleWords h)
@@ -100,10 +97,10 @@ module _ (ws : List ℕ) (n : ℕ) (a : Accepted ws n) (es : List ℕ) where
   judge-length h = no-entry (other-length es h)
 
   pub judge-left : length es ≡ ruleWords → false ≡ isSide (leftOf es) → Answers ws n es (Faulty 2)
-  judge-left h e = no-entry (alone es h ∙ rw (no-side (leftOf es) e))
+  judge-left h e = no-entry (entry-alone es h ∙ rw (no-side (leftOf es) e))
 
   pub judge-right : length es ≡ ruleWords → false ≡ isSide (rightOf es) → Answers ws n es (Faulty 2)
-  judge-right h e = no-entry (alone es h ∙ rw (no-side (rightOf es) e) (no-right (getD es 0 0) (leftOf es)))
+  judge-right h e = no-entry (entry-alone es h ∙ rw (no-side (rightOf es) e) (no-right (getD es 0 0) (leftOf es)))
 
   -- 3 and 5, tried in this order
   module _ (w : Whole es) where
@@ -113,7 +110,7 @@ module _ (ws : List ℕ) (n : ℕ) (a : Accepted ws n) (es : List ℕ) where
     unfolding addRule
     tried many faulty p q =
         let s = sides es w in
-        rw (a .are, alone es (w .long), s .isLeft, s .isRight, p, q) (answer-by many faulty _)
+        rw (a .are, entry-alone es (w .long), s .isLeft, s .isRight, p, q) (answer-by many faulty _)
 
     pub judge-many : ruleLimit ≤ n → Answers ws n es (Faulty 3)
     judge-many h = tried true _ (le-leb ruleLimit (length (a .rules)) (omega (arith, rules-length ws n (a .rules) (a .are)))) refl

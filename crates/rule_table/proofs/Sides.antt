@@ -41,7 +41,7 @@ front (some i) none is e = let z : _≡_ {A = ℕ} 0 1 = cc in absurd (omega ari
 front (some i) (some js) is e = record { item = i; rest = js; first = refl; others = refl; joined = cc }
 
 -- n slots say n items
-items-length : (ws : List ℕ) (n at : ℕ) (is : List Item) → itemsFrom ws at n ≡ some is → length is ≡ n
+pub items-length : (ws : List ℕ) (n at : ℕ) (is : List Item) → itemsFrom ws at n ≡ some is → length is ≡ n
 unfolding itemsFrom
 items-length ws zero at is e = let p : [] ≡ is = cc in ap length (sym p)
 items-length ws (suc n) at is e =

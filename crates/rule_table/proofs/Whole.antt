@@ -2,65 +2,32 @@
 -- Assumes nothing.
 use Prim.Native.Nat.{ℕ, zero, suc, _+_, _*_, _-_, _/_, _≤_, _<_, min}
 use mathlib.Core.List.{List, []}
-use mathlib.Core.Path.{_≡_, refl, ap, _∙_}
+use mathlib.Core.Path.{_≡_, refl, ap, sym, _∙_}
 use native.Mathlib.Decide.{decLe}
 use native.Mathlib.Nat.{zero-add, suc-add}
 use native.Mathlib.Numerals.{add-one}
 use native.Mathlib.Omega.{arith}
-use borrow.Author.Tests.{le-leb, lt-leb}
-use lib.ListN.{length, getD, take, drop, length-take, length-drop}
-use lib.Seq.{getD-take, getD-drop}
+use borrow.Author.Tests.{lt-leb}
+use lib.ListN.{length, take, drop, length-take, length-drop}
 use Rattle.model.specs.declared.Judgement.{Judgement}
 use Rattle.model.specs.declared.Judgement.the-variants.{Taken, Faulty}
-use Rattle.model.specs.Limits.{itemLimit}
 use Rattle.model.specs.Judged.{Judged, good, bad, judgementOf}
 use Rattle.model.specs.Rule.{Rule}
-use Rattle.model.specs.Tables.{itemsFrom, sideAt, ruleWords, ruleEntry, entries, ruleTable}
+use Rattle.model.specs.Tables.{ruleWords, ruleEntry, entries, ruleTable}
 use Rattle.rule_table.specs.Entries.{rulesIn, Accepted, entryOf}
 use Rattle.rule_table.proofs.Entries.{rules-room}
-use Rattle.rule_table.proofs.Judged.{alone, other-length, Answers}
-
--- what slots say is the same in a part as in the table that it is cut from
-module _ (ws part : List ℕ) (pos : ℕ) (same : (k : ℕ) → k < ruleWords → getD part k 0 ≡ getD ws (pos + k) 0) where
-  word : (k at : ℕ) → k < ruleWords → at ≡ pos + k → getD part k 0 ≡ getD ws at 0
-  word k at h e = rw e (same k h)
-
-  items-part : (n k at : ℕ) → k + n * 3 ≤ ruleWords → at ≡ pos + k → itemsFrom part k n ≡ itemsFrom ws at n
-  unfolding itemsFrom
-  items-part zero k at h e = refl
-  items-part (suc n) k at h e =
-      rw (
-        word k at (omega arith) e,
-        word (k + 1) (at + 1) (omega arith) (omega arith),
-        word (k + 2) (at + 2) (omega arith) (omega arith),
-        items-part n (k + 3) (at + 3) (omega arith) (omega arith),
-      )
-
-  side-part : (k at n : ℕ) → k + 192 ≤ ruleWords → at ≡ pos + k → sideAt part k n ≡ sideAt ws at n
-  unfolding sideAt
-  side-part k at n h e =
-      elim (decLe n itemLimit) [
-        | yes l ↦ rw (le-leb n itemLimit l, items-part n k at (omega arith) e)
-        | no l ↦ rw (lt-leb n itemLimit (omega arith))
-      ]
+use Rattle.rule_table.proofs.Judged.{other-length, Answers}
+use Rattle.rule_table.proofs.Parts.{rule-alike, part-alike, entry-whole, entry-alone}
 
 -- an entry of a table by itself
 module _ (ws : List ℕ) (i : ℕ) where
   full : i * ruleWords + ruleWords ≤ length ws → entryOf (take ruleWords (drop (i * ruleWords) ws)) ≡ ruleEntry ws i
-  unfolding ruleEntry
   full h =
       let part = take ruleWords (drop (i * ruleWords) ws) in
       let long : length part ≡ ruleWords = simp (length-take, length-drop) (omega arith) in
-      let same : (k : ℕ) → k < ruleWords → getD part k 0 ≡ getD ws (i * ruleWords + k) 0 =
-      λ k l. getD-take ruleWords (drop (i * ruleWords) ws) k 0 l ∙ getD-drop (i * ruleWords) ws k 0 in
-      alone part long ∙ rw (
-        le-leb _ _ h,
-        word ws part (i * ruleWords) same 0 (i * ruleWords) (omega arith) (omega arith),
-        word ws part (i * ruleWords) same 1 (i * ruleWords + 1) (omega arith) (omega arith),
-        word ws part (i * ruleWords) same 2 (i * ruleWords + 2) (omega arith) (omega arith),
-        side-part ws part (i * ruleWords) same 3 (i * ruleWords + 3) (getD ws (i * ruleWords + 1) 0) (omega arith) refl,
-        side-part ws part (i * ruleWords) same 195 (i * ruleWords + 195) (getD ws (i * ruleWords + 2) 0) (omega arith) refl,
-      )
+      entry-alone part long
+      ∙ rule-alike part ws 0 (i * ruleWords) ruleWords (part-alike ws (i * ruleWords) ruleWords) (omega arith)
+      ∙ sym (entry-whole ws i h)
 
   short : length ws < i * ruleWords + ruleWords → (e : ℕ) → e < i * ruleWords + ruleWords → entryOf (take (e - i * ruleWords) (drop (i * ruleWords) ws)) ≡ ruleEntry ws i
   unfolding ruleEntry
