@@ -196,3 +196,24 @@ rule-found ws n rs x i e p =
 
 pub rule-nowhere : (ws : List ℕ) (n : ℕ) (rs : List Rule) (x : ℕ) → rulesIn ws n ≡ good rs → placeOf ws n x ≡ Nowhere → listed rs x ≡ none
 rule-nowhere ws n rs x e p = listed-place ws x n rs e ∙ ap (ruleAt ws) p
+
+-- "each listed once": an accepted entry with the number is the one that is found
+listed-again : (ws : List ℕ) (n : ℕ) (older : List Rule) (x i : ℕ) → rulesIn ws n ≡ good older → placeOf ws n x ≡ At i → isListed (listed older x) ≡ true
+listed-again ws n older x i e p = ap isListed (rule-found ws n older x i e p .listed)
+
+pub place-only : (ws : List ℕ) (x n : ℕ) (rs : List Rule) → rulesIn ws n ≡ good rs → (i : ℕ) → i < n → getD ws (i * ruleWords) 0 ≡ x → placeOf ws n x ≡ At i
+unfolding placeOf
+place-only ws x zero rs e i h d = absurd (omega arith)
+place-only ws x (suc n) rs e i h d =
+    elim (ℕ-discrete i n) [
+      | yes p ↦ rw (p, eq-eqb x (getD ws (n * ruleWords) 0) (sym (rw p at d)))
+      | no p ↦
+          let w = newest ws n rs e in
+          let older = place-only ws x n (w .older) (w .before) i (omega arith) d in
+          let number = entry-is ws n (w .add .rule) (w .add .entry) .number in
+          let apart : x ≡ getD ws (n * ruleWords) 0 → ⊥ = λ q.
+          let again = listed-again ws n (w .older) x i (w .before) older in
+          let fresh = ap (λ (y : ℕ). isListed (listed (w .older) y)) (q ∙ sym number) ∙ w .add .fresh in
+          let z : _≡_ {A = ℕ} 0 1 = cc in omega arith in
+          rw (ne-eqb x (getD ws (n * ruleWords) 0) apart) older
+    ]

@@ -39,7 +39,7 @@ module _ (ws ws′ : List ℕ) (a b m : ℕ) (same : Alike ws a ws′ b m) where
         items-alike n (k + 3) (i + 3) (j + 3) (omega arith) (omega arith) (omega arith),
       )
 
-  side-alike : (k i j n : ℕ) → k + 192 ≤ m → i ≡ a + k → j ≡ b + k → sideAt ws i n ≡ sideAt ws′ j n
+  side-alike : (k i j n : ℕ) → k + itemLimit * 3 ≤ m → i ≡ a + k → j ≡ b + k → sideAt ws i n ≡ sideAt ws′ j n
   unfolding sideAt
   side-alike k i j n h e f =
       elim (decLe n itemLimit) [

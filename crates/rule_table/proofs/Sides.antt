@@ -163,7 +163,7 @@ pub record Walk (ws : List ℕ) (at n pos left pending : ℕ) : Type 0 where
   pub slow : pending + left * childLimit ≤ 1 + n * childLimit
   pub goes : scanned (itemsFrom ws pos left) pending ≡ isSide (sideAt ws at n)
 
-pub walk-start : (ws : List ℕ) (at n : ℕ) → n ≤ itemLimit → at + 192 ≤ length ws → Walk ws at n at n 1
+pub walk-start : (ws : List ℕ) (at n : ℕ) → n ≤ itemLimit → at + itemLimit * 3 ≤ length ws → Walk ws at n at n 1
 walk-start ws at n h r = record { few = h; room = omega arith; slow = omega arith; goes = scan-side ws at n h }
 
 module _ (ws : List ℕ) (at n pos left pending : ℕ) (w : Walk ws at n pos left pending) where

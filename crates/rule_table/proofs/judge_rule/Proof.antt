@@ -40,8 +40,11 @@ returns-3 c =
     let d = c .before .before .before .before .before .before in
     judge-right _ _ (d .before .before .before .pre) _ (d .if1 .left) (sym (not-true _ (c .if3 .taken)) ∙ c .before .is-side2 .ensures)
 
--- behind the tests for 2 the entry has two sides
-whole : (c : tie.Else3) → Whole (c .before .before .before .before .before .before .before .before .before .args .entry .now)
+-- behind the tests for 2: the function's start, and that the entry has two sides
+abbrev start : tie.Else3 → tie.Start
+start c = c .before .before .before .before .before .before .before .before .before
+
+whole : (c : tie.Else3) → Whole (start c .args .entry .now)
 whole c =
     let d = c .before .before in
     record {
@@ -51,14 +54,14 @@ whole c =
     }
 
 returns-4 : tie.Need-returns-4
-returns-4 c = judge-many _ _ (c .before .before .before .before .before .before .before .before .before .before .pre) _ (whole (c .before)) (c .if4 .taken)
+returns-4 c = judge-many _ _ (start (c .before) .pre) _ (whole (c .before)) (omega arith)
 
 shared-slice-read-t11 : tie.Need-shared-slice-read-t11
 shared-slice-read-t11 c = search needs
 
 find-rule-requires : tie.Need-find-rule-requires
 find-rule-requires c κs =
-    let s = c .before .before .before .before .before .before .before .before .before .before .before in
+    let s = start (c .before .before) in
     rules-room _ _ (s .pre .rules) (s .pre .are)
 
 enum-told : tie.Need-enum-told
@@ -67,7 +70,8 @@ enum-told c = search needs
 returns-5 : tie.Need-returns-5
 returns-5 c =
     let d = c .before .before .before .before in
-    judge-listed _ _ (d .before .before .before .before .before .before .before .before .before .before .pre) _ (whole (d .before)) (d .if4 .left) _ (sym (c .before .before .find-rule .ensures) ∙ c .enum-told .given .1)
+    judge-listed _ _ (start (d .before) .pre) _ (whole (d .before)) (omega arith) _
+    (sym (c .before .before .find-rule .ensures) ∙ c .enum-told .given .1)
 
 enum-told-2 : tie.Need-enum-told-2
 enum-told-2 c = search needs
@@ -82,14 +86,16 @@ returns-6 : tie.Need-returns-6
 returns-6 c =
     let d = c .before .before .before .before .before in
     let l = d .before .before in
-    judge-unbound _ _ (l .before .before .before .before .before .before .before .before .before .before .pre) _ (whole (l .before)) (l .if4 .left) (sym (d .find-rule .ensures) ∙ c .before .before .before .enum-told2 .given .1)
+    judge-unbound _ _ (start (l .before) .pre) _ (whole (l .before)) (omega arith)
+    (sym (d .find-rule .ensures) ∙ c .before .before .before .enum-told2 .given .1)
     _ (c .before .before .variables .ensures) (sym (not-true _ (c .if5 .taken)) ∙ c .before .all-known .ensures)
 
 returns-7 : tie.Need-returns-7
 returns-7 c =
     let d = c .before .before .before .before .before in
     let l = d .before .before in
-    judge-taken _ _ (l .before .before .before .before .before .before .before .before .before .before .pre) _ (whole (l .before)) (l .if4 .left) (sym (d .find-rule .ensures) ∙ c .before .before .before .enum-told2 .given .1)
+    judge-taken _ _ (start (l .before) .pre) _ (whole (l .before)) (omega arith)
+    (sym (d .find-rule .ensures) ∙ c .before .before .before .enum-told2 .given .1)
     _ (c .before .before .variables .ensures) (sym (not-false _ (c .if5 .left)) ∙ c .before .all-known .ensures)
 
 pub judge-rule-spec : {M : Type 1} → statement M
