@@ -2,4 +2,8 @@ pub mod Patterns
 pub mod Slots
 pub mod Sides
 pub mod Passes
+pub mod Parts
 pub mod Entries
+pub mod Judged
+pub mod Whole
+pub mod Table

@@ -41,7 +41,7 @@ front (some i) none is e = let z : _≡_ {A = ℕ} 0 1 = cc in absurd (omega ari
 front (some i) (some js) is e = record { item = i; rest = js; first = refl; others = refl; joined = cc }
 
 -- n slots say n items
-items-length : (ws : List ℕ) (n at : ℕ) (is : List Item) → itemsFrom ws at n ≡ some is → length is ≡ n
+pub items-length : (ws : List ℕ) (n at : ℕ) (is : List Item) → itemsFrom ws at n ≡ some is → length is ≡ n
 unfolding itemsFrom
 items-length ws zero at is e = let p : [] ≡ is = cc in ap length (sym p)
 items-length ws (suc n) at is e =
@@ -163,7 +163,7 @@ pub record Walk (ws : List ℕ) (at n pos left pending : ℕ) : Type 0 where
   pub slow : pending + left * childLimit ≤ 1 + n * childLimit
   pub goes : scanned (itemsFrom ws pos left) pending ≡ isSide (sideAt ws at n)
 
-pub walk-start : (ws : List ℕ) (at n : ℕ) → n ≤ itemLimit → at + 192 ≤ length ws → Walk ws at n at n 1
+pub walk-start : (ws : List ℕ) (at n : ℕ) → n ≤ itemLimit → at + itemLimit * 3 ≤ length ws → Walk ws at n at n 1
 walk-start ws at n h r = record { few = h; room = omega arith; slow = omega arith; goes = scan-side ws at n h }
 
 module _ (ws : List ℕ) (at n pos left pending : ℕ) (w : Walk ws at n pos left pending) where

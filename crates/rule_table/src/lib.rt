@@ -3,12 +3,29 @@
 use model::Judgement;
 use model::RuleNo;
 ghost use mathlib.Core.Path.{_≡_};
-ghost use Prim.Native.Nat.{_+_, _*_, _≤_};
+ghost use Prim.Native.Nat.{_+_, _*_, _≤_, min};
 ghost use lib.ListN.{length};
+ghost use Rattle.model.specs.Limits.{itemLimit};
 ghost use Rattle.model.specs.Judged.{judgementOf};
 ghost use Rattle.model.specs.Tables.{ruleWords, sideAt, ruleTable};
 ghost use Rattle.rule_table.specs.Slots.{isSide, itemAt, slotOf, Standing, knownFrom};
 ghost use Rattle.rule_table.specs.Entries.{Accepted, entryOf, withEntry, placeOf};
+
+// The limits of document 01 that an entry is judged by.
+const RULE_LIMIT: usize = 256;
+
+const ITEM_LIMIT: usize = 64;
+
+const CHILD_LIMIT: usize = 8;
+
+const VARIABLE_LIMIT: usize = 16;
+
+// How many words an entry has, and where the slots of its left and of its right side start.
+const RULE_WORDS: usize = 387;
+
+const LEFT: usize = 3;
+
+const RIGHT: usize = 195;
 
 // Where a rule number is listed.
 pub enum Listed {
@@ -31,14 +48,14 @@ pub fn find_rule(rules: &[u16], count: usize, number: RuleNo) -> Listed
     let mut i = count;
     while 0 < i {
         i -= 1;
-        if number.0 == rules[i * 387] {
+        if number.0 == rules[i * RULE_WORDS] {
             return Listed::At(i);
         }
     }
     Listed::Nowhere
 }
 
-// The one place where an item's words are read.
+// What the slot at `at` holds, by its kind.
 fn item_at(words: &[u16], at: usize) -> Slot
     requires { ⌜ at + 3 ≤ length (now words) ⌝ }
     ensures { λ r. ⌜ r ≡ slotOf (itemAt (now (words .entry)) at) ⌝ }
@@ -48,14 +65,14 @@ fn item_at(words: &[u16], at: usize) -> Slot
     let count = words[at + 2] as usize;
     match kind {
         0 => {
-            if number < 16 {
+            if number < VARIABLE_LIMIT {
                 Slot::Variable(number)
             } else {
                 Slot::Outside
             }
         }
         1 => {
-            if count <= 8 {
+            if count <= CHILD_LIMIT {
                 Slot::Operator(count)
             } else {
                 Slot::Outside
@@ -68,10 +85,10 @@ fn item_at(words: &[u16], at: usize) -> Slot
 // Whether the first `items` slots from `at` on are one whole pattern of 1 to 64 items: each item that is read takes one
 // from the patterns still to be read, and adds its children.
 fn is_side(words: &[u16], at: usize, items: usize) -> bool
-    requires { ⌜ at + 192 ≤ length (now words) ⌝ }
+    requires { ⌜ at + itemLimit * 3 ≤ length (now words) ⌝ }
     ensures { λ r. ⌜ r ≡ isSide (sideAt (now (words .entry)) at items) ⌝ }
 {
-    if items > 64 {
+    if items > ITEM_LIMIT {
         return false;
     }
     let mut pos = at;
@@ -100,11 +117,11 @@ fn is_side(words: &[u16], at: usize, items: usize) -> bool
 }
 
 // Which of the sixteen variables stand in the first `items` slots from `at` on.
-fn variables(words: &[u16], at: usize, items: usize) -> [bool; 16]
+fn variables(words: &[u16], at: usize, items: usize) -> [bool; VARIABLE_LIMIT]
     requires { ⌜ at + items * 3 ≤ length (now words) ⌝ }
     ensures { λ r. ⌜ Standing (now (words .entry)) at items r ⌝ }
 {
-    let mut on = [false; 16];
+    let mut on = [false; VARIABLE_LIMIT];
     let mut pos = at;
     let mut left = items;
     while 0 < left {
@@ -119,7 +136,7 @@ fn variables(words: &[u16], at: usize, items: usize) -> [bool; 16]
 }
 
 // Whether each variable in the first `items` slots from `at` on is one of those given.
-fn all_known(words: &[u16], at: usize, items: usize, on: [bool; 16]) -> bool
+fn all_known(words: &[u16], at: usize, items: usize, on: [bool; VARIABLE_LIMIT]) -> bool
     requires { ⌜ at + items * 3 ≤ length (now words) ⌝ }
     ensures { λ r. ⌜ r ≡ knownFrom on (now (words .entry)) at items ⌝ }
 {
@@ -136,4 +153,65 @@ fn all_known(words: &[u16], at: usize, items: usize, on: [bool; 16]) -> bool
         left -= 1;
     }
     true
+}
+
+// Judges one entry behind the `count` accepted ones of `rules`: 2, 3, 5, the lowest number first.
+pub fn judge_rule(rules: &[u16], count: usize, entry: &[u16]) -> Judgement
+    requires { ⌜ Accepted (now rules) count ⌝ }
+    ensures { λ r. ⌜ r ≡ judgementOf (withEntry (now (rules .entry)) count (entryOf (now (entry .entry)))) ⌝ }
+{
+    if entry.len() != RULE_WORDS {
+        return Judgement::Faulty(2);
+    }
+    let left = entry[1] as usize;
+    let right = entry[2] as usize;
+    if !is_side(entry, LEFT, left) {
+        return Judgement::Faulty(2);
+    }
+    if !is_side(entry, RIGHT, right) {
+        return Judgement::Faulty(2);
+    }
+    if count >= RULE_LIMIT {
+        return Judgement::Faulty(3);
+    }
+    let found = find_rule(rules, count, RuleNo(entry[0]));
+    if let Listed::At(_) = found {
+        return Judgement::Faulty(5);
+    }
+    let on = variables(entry, LEFT, left);
+    if !all_known(entry, RIGHT, right, on) {
+        return Judgement::Faulty(5);
+    }
+    Judgement::Taken
+}
+
+// Where the entry that starts at `pos` ends: 387 words on, or with the table.
+fn entry_end(len: usize, pos: usize) -> usize
+    requires { ⌜ pos ≤ len ⌝ }
+    ensures { λ r. ⌜ r ≡ min (pos + ruleWords) len ⌝ }
+{
+    if len - pos < RULE_WORDS {
+        len
+    } else {
+        pos + 387
+    }
+}
+
+// Judges a whole table, entry by entry: the first bad one decides. A part of an entry at the end has the wrong length.
+pub fn judge_rules(rules: &[u16]) -> Judgement
+    ensures { λ r. ⌜ r ≡ judgementOf (ruleTable (now (rules .entry))) ⌝ }
+{
+    let len = rules.len();
+    let mut count: usize = 0;
+    let mut pos: usize = 0;
+    while pos < len {
+        let end = entry_end(len, pos);
+        let judged = judge_rule(rules, count, &rules[pos..end]);
+        if let Judgement::Faulty(n) = judged {
+            return Judgement::Faulty(n);
+        }
+        count += 1;
+        pos = end;
+    }
+    Judgement::Taken
 }

@@ -17,7 +17,7 @@ abbrev μ-loop : tie.MeasureT-loop
 μ-loop words at items pos₀ left₀ pending₀ pos left pending = left
 
 returns : tie.Need-returns Inv-loop μ-loop
-returns c = side-long _ _ _ (c .if1 .taken)
+returns c = side-long _ _ _ (omega arith)
 
 loop-holds : tie.Need-loop-holds Inv-loop μ-loop
 loop-holds c = walk-start _ _ _ (omega arith) (c .before .before .pre)
