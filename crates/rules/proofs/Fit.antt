@@ -11,12 +11,13 @@ use Rattle.model.specs.declared.Span.{Span}
 use Rattle.model.specs.declared.Bindings.{Bindings}
 use Rattle.model.specs.Limits.{variableLimit}
 use Rattle.model.specs.Term.{unmarked, noTerms, Term, one, stripped}
-use Rattle.model.specs.Pattern.{Patterns, Substitution, Instance}
+use Rattle.model.specs.Pattern.{Patterns, Substitution, Instance, fits}
 use Rattle.terms.specs.Place.{TermAt, Well, Decides}
 use Rattle.terms.proofs.Place.{term-row, term-same}
 use Rattle.terms.proofs.Unique.{one-answer}
 use Rattle.rules.specs.declared.Matched.{Matched}
 use Rattle.rules.specs.Pattern.{PatternsAt, Side}
+use Rattle.rules.proofs.Matching.{fits-decides}
 use Rattle.rules.specs.Match.{spanOf, IsBound, TermOf, Valid, Agrees, Rows, Fits, MatchOk, MatchIs, FitIs}
 
 -- nothing is bound yet
@@ -96,3 +97,9 @@ pub fit-once : (pl pr ws : List ℕ) (a b : ℕ) (r s : Bool) → Side pl → Si
     → FitIs pl pr ws a b r → FitIs pl pr ws a b s → r ≡ s
 fit-once pl pr ws a b r s l l′ v w x y =
     one-answer r s _ (x _ _ (l .is) (l′ .is) _ _ _ _ (v .is) (w .is)) (y _ _ (l .is) (l′ .is) _ _ _ _ (v .is) (w .is))
+
+-- and it is the model's
+pub fit-is : (pl pr ws : List ℕ) (a b : ℕ) (r : Bool) → FitIs pl pr ws a b r → (l l′ : Patterns) → PatternsAt pl 0 1 l → PatternsAt pr 0 1 l′
+    → (e e′ : ℕ) (t u : Term) → TermAt ws a e t → TermAt ws b e′ u → r ≡ fits l l′ (one t) (one u)
+fit-is pl pr ws a b r h l l′ hl hl′ e e′ t u ht hu =
+    one-answer r (fits l l′ (one t) (one u)) _ (h l l′ hl hl′ e e′ t u ht hu) (fits-decides l l′ (one t) (one u))

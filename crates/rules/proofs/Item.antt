@@ -19,7 +19,7 @@ use Rattle.rules.specs.Match.{Valid, Means, BindOk, BindIs, OpOk, OpIs, 
 use Rattle.rules.proofs.Patterns.{joinP, inst-join, count-inst, row-var, row-app}
 
 -- a variable in front: the term is the variable's, and the rows behind are matched
-var-means : (σ : Substitution) (x : ℕ) (s : Patterns) (t : Term) (f : Terms)
+pub var-means : (σ : Substitution) (x : ℕ) (s : Patterns) (t : Term) (f : Terms)
     → (strip (put t f) ≡ inst σ (var x s)) ↔ ((stripped t ≡ σ x) × (strip f ≡ inst σ s))
 unfolding strip inst
 var-means σ x s t f = (

@@ -2,6 +2,7 @@
 -- Assumes nothing.
 use borrow.Author.Needs.{needs}
 use borrow.Author.Tests.{not-true, not-false, eqb-true, eqb-false}
+use native.Mathlib.Omega.{arith}
 use Prim.Native.Nat.{ℕ, _+_}
 use mathlib.Core.Bool.{true}
 use mathlib.Core.Path.{_≡_, ap, sym, _∙_}
@@ -27,7 +28,7 @@ returns : tie.Need-returns
 returns c = λ p _. eqb-false _ _ (sym (c .before .same-op .ensures) ∙ not-true _ (c .if1 .taken)) (op (c .before .before) ∙ p)
 
 returns-2 : tie.Need-returns-2
-returns-2 c = λ _ p. c .if2 .taken (kids (c .before .before .before .before) ∙ p)
+returns-2 c = λ _ p. omega (arith, c .if2 .taken, kids (c .before .before .before .before))
 
 add-t9 : tie.Need-add-t9
 add-t9 c = search needs
@@ -41,7 +42,7 @@ returns-3 c =
     let a = d .before .before .args in
     record {
       op = sym (op d) ∙ eqb-true _ _ (sym (c .before .before .before .before .same-op .ensures) ∙ not-false _ (c .before .before .before .if1 .left));
-      count = sym (kids d) ∙ c .before .if2 .left;
+      count = omega (arith, kids d, c .before .if2 .left);
       children = ap (λ (n : ℕ). record { ok = true; at = a .at + 4; more = n; bound = a .b }) (c .wide .ensures);
     }
 
