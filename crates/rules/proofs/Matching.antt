@@ -131,7 +131,7 @@ match-finds (app o k s) noTerms b = λ σ ag e. let z : _≡_ {A = ℕ} 0 1 = cc
 match-finds (app o k s) (tree o′ m k′ f) b = op-finds b o o′ k s m k′ f (match-finds k k′) (match-finds s f) (sameOp o o′) refl
 
 -- what is bound has a substitution
-pub givenBy : Option Term → Term
+givenBy : Option Term → Term
 givenBy none = record { op = 0; mark = unmarked; kids = noTerms }
 givenBy (some t) = stripped t
 

@@ -11,7 +11,7 @@ use Rattle.model.specs.declared.Bindings.{Bindings}
 use Rattle.model.specs.Limits.{variableLimit}
 use Rattle.model.specs.Term.{Terms, Term, one, strip, stripped}
 use Rattle.model.specs.Pattern.{Patterns, Substitution, inst, Instance}
-use Rattle.terms.specs.Place.{TermAt, RowAt, Decides}
+use Rattle.terms.specs.Place.{nodeOf, sameHead, TermAt, RowAt, Decides}
 use Rattle.rules.specs.declared.Step.{Step}
 use Rattle.rules.specs.declared.Matched.{Matched}
 use Rattle.rules.specs.Pattern.{PatternsAt}
@@ -70,18 +70,9 @@ BindOk false ws x b r e t = (σ : Substitution) → Agrees ws b σ → stripped 
 abbrev pub BindIs : List ℕ → ℕ → ℕ → Bindings → Step → Type 0
 BindIs ws x at b r = (e : ℕ) (t : Term) → TermAt ws at e t → BindOk (r .ok) ws x b r e t
 
--- an operator with its count that met a node: both agree, and the children follow; or one does not
-pub record Enters (ws : List ℕ) (o n at : ℕ) (b : Bindings) (r : Step) : Type 0 where
-  pub op : getD ws at 0 ≡ o
-  pub count : getD ws (at + 1) 0 ≡ n
-  pub children : r ≡ record { ok = true; at = at + 4; more = n; bound = b }
-
-abbrev pub OpOk : Bool → List ℕ → ℕ → ℕ → ℕ → Bindings → Step → Type 0
-OpOk true ws o n at b r = Enters ws o n at b r
-OpOk false ws o n at b r = getD ws at 0 ≡ o → getD ws (at + 1) 0 ≡ n → ⊥
-
-abbrev pub OpIs : List ℕ → ℕ → ℕ → ℕ → Bindings → Step → Type 0
-OpIs ws o n at b r = OpOk (r .ok) ws o n at b r
+-- an operator o with n children that met the node at `at`: they agree, and the children follow
+abbrev pub opStep : List ℕ → ℕ → ℕ → ℕ → Bindings → Step
+opStep ws o n at b = record { ok = sameHead (nodeOf ws at) o n; at = at + 4; more = n; bound = b }
 
 -- one item of rows q and f: what is left to match is met by the same substitutions
 pub record Goes (ps : List ℕ) (item : ℕ) (ws : List ℕ) (b : Bindings) (r : Step) (n : ℕ) (q : Patterns) (f : Terms) : Type 0 where

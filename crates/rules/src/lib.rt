@@ -8,7 +8,7 @@ ghost use Prim.Native.Nat.{_+_, _≤_, _<_};
 ghost use lib.ListN.{length};
 ghost use Rattle.terms.specs.Place.{Well};
 ghost use Rattle.rules.specs.Pattern.{slotOf, Side};
-ghost use Rattle.rules.specs.Match.{spanOf, withSpan, Valid, Rows, Ready, BindIs, OpIs, StepIs, MatchIs, FitIs};
+ghost use Rattle.rules.specs.Match.{spanOf, withSpan, Valid, Rows, Ready, BindIs, opStep, StepIs, MatchIs, FitIs};
 
 // An item's three words.
 pub struct Slot {
@@ -88,31 +88,14 @@ fn bind(words: &[u16], x: usize, at: usize, b: Bindings) -> Step
     }
 }
 
-// An operator with its child count meets the node at `at`.
+// An operator with its child count meets the node at `at`; its children follow.
 fn op_step(op: OpNo, count: u16, words: &[u16], at: usize, b: Bindings) -> Step
     requires { ⌜ at + 4 ≤ length (now words) ⌝ }
-    ensures { λ r. ⌜ OpIs (now (words .entry)) (op .0) count at b r ⌝ }
+    ensures { λ r. ⌜ r ≡ opStep (now (words .entry)) (op .0) count at b ⌝ }
 {
     let n = terms::node_at(words, at);
-    let same = terms::same_op(n.op, op);
-    if !same {
-        return Step {
-            ok: false,
-            at: at,
-            more: 0,
-            bound: b,
-        };
-    }
-    if n.count != count {
-        return Step {
-            ok: false,
-            at: at,
-            more: 0,
-            bound: b,
-        };
-    }
     Step {
-        ok: true,
+        ok: terms::same_head(n, op, count),
         at: at + 4,
         more: terms::wide(count),
         bound: b,
