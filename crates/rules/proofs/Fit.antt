@@ -38,14 +38,14 @@ none-agrees ws σ x l b = absurd (none-bound x b l)
 -- what is bound has a substitution
 module _ (ws : List ℕ) (b : Bindings) (v : Valid ws b) where
   choose : (x : ℕ) → Dec (x < variableLimit) → Dec (IsBound b x) → Term
-  choose x (yes l) (yes bd) = stripped (v .terms x l bd .0)
+  choose x (yes l) (yes bd) = stripped (v .terms x l bd .term)
   choose x (yes l) (no f) = record { op = 0; mark = unmarked; kids = noTerms }
   choose x (no f) d = record { op = 0; mark = unmarked; kids = noTerms }
 
   chosen : (x : ℕ) (p : Dec (x < variableLimit)) (d : Dec (IsBound b x)) → x < variableLimit → IsBound b x
       → (t : Term) → TermOf ws b x t → stripped t ≡ choose x p d
   unfolding choose
-  chosen x (yes l) (yes bd) l′ bd′ t ht = let w = v .terms x l bd in ap stripped (term-same ws _ _ _ t (w .0) ht (w .1))
+  chosen x (yes l) (yes bd) l′ bd′ t ht = let w = v .terms x l bd in ap stripped (term-same ws _ _ _ t (w .term) ht (w .is))
   chosen x (yes l) (no f) l′ bd′ t ht = absurd (f bd′)
   chosen x (no f) d l′ bd′ t ht = absurd (f l′)
 

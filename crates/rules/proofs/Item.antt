@@ -14,9 +14,9 @@ use Rattle.terms.specs.Place.{nodeOf, sameHead, RowAt}
 use Rattle.terms.proofs.Rows.{strip-join, count-strip, join-inj}
 use Rattle.terms.proofs.Place.{Tree, row-tree}
 use Rattle.terms.proofs.SameWalk.{heads, heads-same}
-use Rattle.rules.specs.declared.Step.{Step}
+use Rattle.rules.specs.declared.Met.{Met}
 use Rattle.rules.specs.Pattern.{PatternsAt}
-use Rattle.rules.specs.Match.{Valid, Means, BindOk, BindIs, opStep, Goes, StepOk, StepIs}
+use Rattle.rules.specs.Match.{Valid, Means, BindOk, BindIs, opStep, Goes, ItemOk, ItemIs}
 use Rattle.rules.proofs.Patterns.{joinP, inst-join, count-inst, row-var, App, row-app}
 
 -- a variable in front: the term is the variable's, and the rows behind are matched
@@ -47,10 +47,10 @@ app-means σ o k s m k′ s′ c = (
       rw (p .front, p .back),
 )
 
-module _ (ps : List ℕ) (item : ℕ) (ws : List ℕ) (at : ℕ) (b : Bindings) (r : Step) where
+module _ (ps : List ℕ) (item : ℕ) (ws : List ℕ) (at : ℕ) (b : Bindings) (r : Met) where
   -- a variable's item
   bind-at : (n x : ℕ) (s : Patterns) (t : Term) (f : Terms) (e : ℕ) (o : Bool) → PatternsAt ps (item + 3) n s → RowAt ws e n f
-      → BindOk o ws x b r e t → StepOk o ps item ws b r n (var x s) (put t f)
+      → BindOk o ws x b r e t → ItemOk o ps item ws b r n (var x s) (put t f)
   bind-at n x s t f e true p h d =
       let m : n ≡ r .more + n = omega (arith, d .leaf) in
       record {
@@ -67,7 +67,7 @@ module _ (ps : List ℕ) (item : ℕ) (ws : List ℕ) (at : ℕ) (b : Bindings) 
       }
   bind-at n x s t f e false p h d = λ σ w. d σ (w .agrees) (var-means σ x s t f .0 (w .makes) .0)
 
-  pub bind-step : getD ps item 0 ≡ 0 → (x : ℕ) → getD ps (item + 1) 0 ≡ x → BindIs ws x at b r → StepIs ps item ws at b r
+  pub bind-step : getD ps item 0 ≡ 0 → (x : ℕ) → getD ps (item + 1) 0 ≡ x → BindIs ws x at b r → ItemIs ps item ws at b r
   unfolding countP count
   bind-step z y i d n noPatterns f hp hf = absurd (omega (arith, hp .counted))
   bind-step z y i d n (app o k s) f hp hf = absurd (omega (arith, row-app ps item n o k s hp .kind))
@@ -80,7 +80,7 @@ module _ (ps : List ℕ) (item : ℕ) (ws : List ℕ) (at : ℕ) (b : Bindings) 
       bind-at n x s t s′ (h .stop) (r .ok) (v .behind) (h .behind) (rw e at (d (h .stop) t (h .term)))
 
   -- an item is a variable or an operator
-  pub other-step : (getD ps item 0 ≡ 0 → ⊥) → (getD ps item 0 ≡ 1 → ⊥) → StepIs ps item ws at b r
+  pub other-step : (getD ps item 0 ≡ 0 → ⊥) → (getD ps item 0 ≡ 1 → ⊥) → ItemIs ps item ws at b r
   unfolding countP
   other-step z z′ n noPatterns f hp hf = absurd (omega (arith, hp .counted))
   other-step z z′ n (var x s) f hp hf = absurd (z (row-var ps item n x s hp .kind))
@@ -113,7 +113,7 @@ module _ (ps : List ℕ) (item : ℕ) (ws : List ℕ) (at : ℕ) (b : Bindings) 
 
   op-go : (n o : ℕ) (k s : Patterns) (o′ : ℕ) (m : Mark) (k′ s′ : Terms) → Tree ws at n o′ m k′ s′ → App ps item n o k s
       → (r : Bool) → sameHead (nodeOf ws at) o (countP k) ≡ r
-      → StepOk r ps item ws b (opStep ws o (countP k) at b) n (app o k s) (tree o′ m k′ s′)
+      → ItemOk r ps item ws b (opStep ws o (countP k) at b) n (app o k s) (tree o′ m k′ s′)
   op-go n o k s o′ m k′ s′ h w false e =
       op-off ws b o k s o′ m k′ s′
       (λ p c. false≢true (sym e ∙ heads-same (nodeOf ws at) o (countP k) (record { op = h .op ∙ p; count = h .kids ∙ c })))
@@ -123,8 +123,8 @@ module _ (ps : List ℕ) (item : ℕ) (ws : List ℕ) (at : ℕ) (b : Bindings) 
       let c : countP k ≡ count k′ = sym (d .count) ∙ h .kids in
       rw p (op-on (sameHead (nodeOf ws at) o (countP k)) n o k s m k′ s′ c (w .below) (h .below))
 
-  pub op-step : (r : Step) → getD ps item 0 ≡ 1 → (x y : ℕ) → getD ps (item + 1) 0 ≡ x → getD ps (item + 2) 0 ≡ y → r ≡ opStep ws x y at b
-      → StepIs ps item ws at b r
+  pub op-step : (r : Met) → getD ps item 0 ≡ 1 → (x y : ℕ) → getD ps (item + 1) 0 ≡ x → getD ps (item + 2) 0 ≡ y → r ≡ opStep ws x y at b
+      → ItemIs ps item ws at b r
   unfolding countP count
   op-step r z x y i j e n noPatterns f hp hf = absurd (omega (arith, hp .counted))
   op-step r z x y i j e n (var v s) f hp hf = absurd (omega (arith, row-var ps item n v s hp .kind))

@@ -24,12 +24,12 @@ nodeOf ws at = record {
 }
 
 -- "count above 8, mark above 2, unmarked node with a rule": none of these
-abbrev pub isMark : Option Mark → Bool
-isMark none = false
-isMark (some m) = true
+abbrev pub isSome : Option Mark → Bool
+isSome none = false
+isSome (some m) = true
 
 abbrev pub okWords : ℕ → ℕ → ℕ → Bool
-okWords c m r = leb c childLimit && isMark (markOf m r)
+okWords c m r = leb c childLimit && isSome (markOf m r)
 
 abbrev pub okNode : Node → Bool
 okNode n = okWords (n .count) (n .mark) (n .rule .0)

@@ -29,7 +29,7 @@ pub enum Whole {
     Broken,
 }
 
-// A word as a count of terms.
+// A word as a count or a place.
 pub fn wide(x: u16) -> usize
     ensures { λ r. ⌜ r ≡ x ⌝ }
 {
