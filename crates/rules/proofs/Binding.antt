@@ -12,19 +12,19 @@ use Rattle.model.specs.declared.Bindings.{Bindings}
 use Rattle.model.specs.Limits.{variableLimit}
 use Rattle.model.specs.Term.{Term, stripped}
 use Rattle.model.specs.Pattern.{Substitution}
-use Rattle.terms.specs.Place.{TermAt, Decides}
+use Rattle.terms.specs.Place.{TermAt, EndsAt, Decides}
 use Rattle.terms.proofs.Rows.{one-long}
 use Rattle.terms.proofs.Place.{term-length, term-same}
 use Rattle.rules.specs.Match.{spanOf, withSpan, IsBound, TermOf, Valid, Agrees, BindOk}
 
 module _ (ws : List ℕ) (b : Bindings) (x at e : ℕ) (l : x < variableLimit) (v : Valid ws b) (t : Term) (ht : TermAt ws at e t) where
   -- a variable that is bound
-  pub bind-old : (r : Bool) (bd : IsBound b x) → Decides r (stripped (v .terms x l bd .0) ≡ stripped t)
+  pub bind-old : (r : Bool) (bd : IsBound b x) → Decides r (stripped (v .terms x l bd .term) ≡ stripped t)
       → BindOk r ws x b (record { ok = r; at = e; more = 0; bound = b }) e t
   bind-old true bd d =
-      let (u, hu) = v .terms x l bd in
-      record { ends = refl; leaf = refl; valid = v; same = λ σ. (λ ag. (ag, sym d ∙ ag x l bd u hu), λ p. p .0) }
-  bind-old false bd d = λ σ ag p. let (u, hu) = v .terms x l bd in d (ag x l bd u hu ∙ sym p)
+      let w = v .terms x l bd in
+      record { ends = refl; leaf = refl; valid = v; same = λ σ. (λ ag. (ag, sym d ∙ ag x l bd (w .term) (w .is)), λ p. p .0) }
+  bind-old false bd d = λ σ ag p. let w = v .terms x l bd in d (ag x l bd (w .term) (w .is) ∙ sym p)
 
   -- one that is not
   with-x : Bindings
@@ -38,8 +38,8 @@ module _ (ws : List ℕ) (b : Bindings) (x at e : ℕ) (l : x < variableLimit) (
   unfolding with-x
   off-x y f = getD-set-other (b .spans) x y _ _ f
 
-  x-terms : (y : ℕ) → Dec (y ≡ x) → y < variableLimit → IsBound with-x y → (u : Term) × TermOf ws with-x y u
-  x-terms y (yes p) ly bd = rw (p, at-x) (t, ht)
+  x-terms : (y : ℕ) → Dec (y ≡ x) → y < variableLimit → IsBound with-x y → EndsAt ws (spanOf with-x y .start) (spanOf with-x y .end)
+  x-terms y (yes p) ly bd = rw (p, at-x) (record { term = t; is = ht })
   x-terms y (no f) ly bd = rw (off-x y f) (v .terms y ly (rw (off-x y f) at bd))
 
   x-valid : Valid ws with-x

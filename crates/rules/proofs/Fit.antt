@@ -11,12 +11,13 @@ use Rattle.model.specs.declared.Span.{Span}
 use Rattle.model.specs.declared.Bindings.{Bindings}
 use Rattle.model.specs.Limits.{variableLimit}
 use Rattle.model.specs.Term.{unmarked, noTerms, Term, one, stripped}
-use Rattle.model.specs.Pattern.{Patterns, Substitution, Instance}
+use Rattle.model.specs.Pattern.{Patterns, Substitution, Instance, fits}
 use Rattle.terms.specs.Place.{TermAt, Well, Decides}
 use Rattle.terms.proofs.Place.{term-row, term-same}
 use Rattle.terms.proofs.Unique.{one-answer}
 use Rattle.rules.specs.declared.Matched.{Matched}
 use Rattle.rules.specs.Pattern.{PatternsAt, Side}
+use Rattle.rules.proofs.Matching.{fits-decides}
 use Rattle.rules.specs.Match.{spanOf, IsBound, TermOf, Valid, Agrees, Rows, Fits, MatchOk, MatchIs, FitIs}
 
 -- nothing is bound yet
@@ -37,14 +38,14 @@ none-agrees ws σ x l b = absurd (none-bound x b l)
 -- what is bound has a substitution
 module _ (ws : List ℕ) (b : Bindings) (v : Valid ws b) where
   choose : (x : ℕ) → Dec (x < variableLimit) → Dec (IsBound b x) → Term
-  choose x (yes l) (yes bd) = stripped (v .terms x l bd .0)
+  choose x (yes l) (yes bd) = stripped (v .terms x l bd .term)
   choose x (yes l) (no f) = record { op = 0; mark = unmarked; kids = noTerms }
   choose x (no f) d = record { op = 0; mark = unmarked; kids = noTerms }
 
   chosen : (x : ℕ) (p : Dec (x < variableLimit)) (d : Dec (IsBound b x)) → x < variableLimit → IsBound b x
       → (t : Term) → TermOf ws b x t → stripped t ≡ choose x p d
   unfolding choose
-  chosen x (yes l) (yes bd) l′ bd′ t ht = let w = v .terms x l bd in ap stripped (term-same ws _ _ _ t (w .0) ht (w .1))
+  chosen x (yes l) (yes bd) l′ bd′ t ht = let w = v .terms x l bd in ap stripped (term-same ws _ _ _ t (w .term) ht (w .is))
   chosen x (yes l) (no f) l′ bd′ t ht = absurd (f bd′)
   chosen x (no f) d l′ bd′ t ht = absurd (f l′)
 
@@ -96,3 +97,9 @@ pub fit-once : (pl pr ws : List ℕ) (a b : ℕ) (r s : Bool) → Side pl → Si
     → FitIs pl pr ws a b r → FitIs pl pr ws a b s → r ≡ s
 fit-once pl pr ws a b r s l l′ v w x y =
     one-answer r s _ (x _ _ (l .is) (l′ .is) _ _ _ _ (v .is) (w .is)) (y _ _ (l .is) (l′ .is) _ _ _ _ (v .is) (w .is))
+
+-- and it is the model's
+pub fit-is : (pl pr ws : List ℕ) (a b : ℕ) (r : Bool) → FitIs pl pr ws a b r → (l l′ : Patterns) → PatternsAt pl 0 1 l → PatternsAt pr 0 1 l′
+    → (e e′ : ℕ) (t u : Term) → TermAt ws a e t → TermAt ws b e′ u → r ≡ fits l l′ (one t) (one u)
+fit-is pl pr ws a b r h l l′ hl hl′ e e′ t u ht hu =
+    one-answer r (fits l l′ (one t) (one u)) _ (h l l′ hl hl′ e e′ t u ht hu) (fits-decides l l′ (one t) (one u))

@@ -2,4 +2,6 @@ pub mod Patterns
 pub mod Binding
 pub mod Item
 pub mod Match
+pub mod Matching
 pub mod Fit
+pub mod Sides

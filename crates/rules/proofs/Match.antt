@@ -9,10 +9,10 @@ use Rattle.model.specs.declared.Bindings.{Bindings}
 use Rattle.model.specs.Term.{Terms, noTerms, tree, count, strip}
 use Rattle.model.specs.Pattern.{Patterns, noPatterns, var, app, countP, inst}
 use Rattle.terms.specs.Place.{RowAt}
-use Rattle.rules.specs.declared.Step.{Step}
+use Rattle.rules.specs.declared.Met.{Met}
 use Rattle.rules.specs.declared.Matched.{Matched}
 use Rattle.rules.specs.Pattern.{PatternsAt}
-use Rattle.rules.specs.Match.{Valid, Rows, Ready, Goes, StepOk, StepIs, MatchOk, MatchIs}
+use Rattle.rules.specs.Match.{Valid, Rows, Ready, Goes, ItemOk, ItemIs, MatchOk, MatchIs}
 
 -- nothing left to match
 pub match-none : (ps : List ℕ) (item n : ℕ) (ws : List ℕ) (at : ℕ) (b : Bindings) → Valid ws b → n ≡ 0
@@ -28,16 +28,16 @@ pub ready : (ps : List ℕ) (item n : ℕ) (ws : List ℕ) (at : ℕ) → Rows p
 ready ps item zero ws at r z = absurd (z refl)
 ready ps item (suc n) ws at r z = record { left = n; rows = r }
 
-module _ (ps : List ℕ) (item : ℕ) (ws : List ℕ) (at : ℕ) (b : Bindings) (s : Step) (d : StepIs ps item ws at b s) where
+module _ (ps : List ℕ) (item : ℕ) (ws : List ℕ) (at : ℕ) (b : Bindings) (s : Met) (d : ItemIs ps item ws at b s) where
   -- an item that fails
   pub step-off : (n : ℕ) → (n ≡ 0 → ⊥) → s .ok ≡ false → MatchIs ps item n ws at b (record { ok = false; bound = s .bound })
   step-off zero z ok q f hp hf = absurd (z refl)
-  step-off (suc n) z ok q f hp hf = subst (λ (o : Bool). StepOk o ps item ws b s n q f) ok (d n q f hp hf)
+  step-off (suc n) z ok q f hp hf = subst (λ (o : Bool). ItemOk o ps item ws b s n q f) ok (d n q f hp hf)
 
   -- an item that is met
   step-on : (n : ℕ) → s .ok ≡ true → (q : Patterns) (f : Terms) → PatternsAt ps item (suc n) q → RowAt ws at (suc n) f
       → Goes ps item ws b s n q f
-  step-on n ok q f hp hf = subst (λ (o : Bool). StepOk o ps item ws b s n q f) ok (d n q f hp hf)
+  step-on n ok q f hp hf = subst (λ (o : Bool). ItemOk o ps item ws b s n q f) ok (d n q f hp hf)
 
   -- what is left to match then
   pub record Next (n : ℕ) : Type 0 where

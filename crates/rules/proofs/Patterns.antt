@@ -37,6 +37,12 @@ narrowP-join noPatterns s g h = h
 narrowP-join (var x r) s g h = (g .0, narrowP-join r s (g .1) h)
 narrowP-join (app o k r) s g h = (g .0, g .1, narrowP-join r s (g .2) h)
 
+pub narrowP-parts : (k s : Patterns) → NarrowP (joinP k s) → NarrowP k × NarrowP s
+unfolding joinP NarrowP
+narrowP-parts noPatterns s h = (tt, h)
+narrowP-parts (var x r) s h = let p = narrowP-parts r s (h .1) in ((h .0, p .0), p .1)
+narrowP-parts (app o k r) s h = let p = narrowP-parts r s (h .2) in ((h .0, h .1, p .0), p .1)
+
 pub inst-join : (σ : Substitution) (k s : Patterns) → inst σ (joinP k s) ≡ join (inst σ k) (inst σ s)
 unfolding joinP join inst
 inst-join σ noPatterns s = refl

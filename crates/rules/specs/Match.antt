@@ -11,8 +11,8 @@ use Rattle.model.specs.declared.Bindings.{Bindings}
 use Rattle.model.specs.Limits.{variableLimit}
 use Rattle.model.specs.Term.{Terms, Term, one, strip, stripped}
 use Rattle.model.specs.Pattern.{Patterns, Substitution, inst, Instance}
-use Rattle.terms.specs.Place.{TermAt, RowAt, Decides}
-use Rattle.rules.specs.declared.Step.{Step}
+use Rattle.terms.specs.Place.{nodeOf, sameHead, TermAt, RowAt, EndsAt, Decides}
+use Rattle.rules.specs.declared.Met.{Met}
 use Rattle.rules.specs.declared.Matched.{Matched}
 use Rattle.rules.specs.Pattern.{PatternsAt}
 
@@ -33,7 +33,7 @@ TermOf ws b x t = TermAt ws (spanOf b x .start) (spanOf b x .end) t
 -- every variable that is bound is bound to a term
 pub record Valid (ws : List ℕ) (b : Bindings) : Type 0 where
   pub size : length (b .spans) ≡ variableLimit
-  pub terms : (x : ℕ) → x < variableLimit → IsBound b x → (t : Term) × TermOf ws b x t
+  pub terms : (x : ℕ) → x < variableLimit → IsBound b x → EndsAt ws (spanOf b x .start) (spanOf b x .end)
 
 -- σ gives every variable that is bound its term, marks aside
 abbrev pub Agrees : List ℕ → Bindings → Substitution → Type 0
@@ -57,46 +57,37 @@ pub record Ready (ps : List ℕ) (item : ℕ) (ws : List ℕ) (at : ℕ) : Type 
   pub rows : Rows ps item (suc left) ws at
 
 -- a variable x that met the term t, which ends at e: what is bound then agrees with the same substitutions that give x the term
-pub record Binds (ws : List ℕ) (x : ℕ) (b : Bindings) (r : Step) (e : ℕ) (t : Term) : Type 0 where
+pub record Binds (ws : List ℕ) (x : ℕ) (b : Bindings) (r : Met) (e : ℕ) (t : Term) : Type 0 where
   pub ends : r .at ≡ e
   pub leaf : r .more ≡ 0
   pub valid : Valid ws (r .bound)
   pub same : (σ : Substitution) → Agrees ws (r .bound) σ ↔ (Agrees ws b σ × (stripped t ≡ σ x))
 
-abbrev pub BindOk : Bool → List ℕ → ℕ → Bindings → Step → ℕ → Term → Type 0
+abbrev pub BindOk : Bool → List ℕ → ℕ → Bindings → Met → ℕ → Term → Type 0
 BindOk true ws x b r e t = Binds ws x b r e t
 BindOk false ws x b r e t = (σ : Substitution) → Agrees ws b σ → stripped t ≡ σ x → ⊥
 
-abbrev pub BindIs : List ℕ → ℕ → ℕ → Bindings → Step → Type 0
+abbrev pub BindIs : List ℕ → ℕ → ℕ → Bindings → Met → Type 0
 BindIs ws x at b r = (e : ℕ) (t : Term) → TermAt ws at e t → BindOk (r .ok) ws x b r e t
 
--- an operator with its count that met a node: both agree, and the children follow; or one does not
-pub record Enters (ws : List ℕ) (o n at : ℕ) (b : Bindings) (r : Step) : Type 0 where
-  pub op : getD ws at 0 ≡ o
-  pub count : getD ws (at + 1) 0 ≡ n
-  pub children : r ≡ record { ok = true; at = at + 4; more = n; bound = b }
-
-abbrev pub OpOk : Bool → List ℕ → ℕ → ℕ → ℕ → Bindings → Step → Type 0
-OpOk true ws o n at b r = Enters ws o n at b r
-OpOk false ws o n at b r = getD ws at 0 ≡ o → getD ws (at + 1) 0 ≡ n → ⊥
-
-abbrev pub OpIs : List ℕ → ℕ → ℕ → ℕ → Bindings → Step → Type 0
-OpIs ws o n at b r = OpOk (r .ok) ws o n at b r
+-- an operator o with n children that met the node at `at`: they agree, and the children follow
+abbrev pub opStep : List ℕ → ℕ → ℕ → ℕ → Bindings → Met
+opStep ws o n at b = record { ok = sameHead (nodeOf ws at) o n; at = at + 4; more = n; bound = b }
 
 -- one item of rows q and f: what is left to match is met by the same substitutions
-pub record Goes (ps : List ℕ) (item : ℕ) (ws : List ℕ) (b : Bindings) (r : Step) (n : ℕ) (q : Patterns) (f : Terms) : Type 0 where
+pub record Goes (ps : List ℕ) (item : ℕ) (ws : List ℕ) (b : Bindings) (r : Met) (n : ℕ) (q : Patterns) (f : Terms) : Type 0 where
   pub valid : Valid ws (r .bound)
   pub rows : Rows ps (item + 3) (r .more + n) ws (r .at)
   pub same : (σ : Substitution) → Means ws (r .bound) (rows .terms) (rows .patterns) σ ↔ Means ws b f q σ
 
-abbrev pub StepOk : Bool → List ℕ → ℕ → List ℕ → Bindings → Step → ℕ → Patterns → Terms → Type 0
-StepOk true ps item ws b r n q f = Goes ps item ws b r n q f
-StepOk false ps item ws b r n q f = (σ : Substitution) → Means ws b f q σ → ⊥
+abbrev pub ItemOk : Bool → List ℕ → ℕ → List ℕ → Bindings → Met → ℕ → Patterns → Terms → Type 0
+ItemOk true ps item ws b r n q f = Goes ps item ws b r n q f
+ItemOk false ps item ws b r n q f = (σ : Substitution) → Means ws b f q σ → ⊥
 
-abbrev pub StepIs : List ℕ → ℕ → List ℕ → ℕ → Bindings → Step → Type 0
-StepIs ps item ws at b r =
+abbrev pub ItemIs : List ℕ → ℕ → List ℕ → ℕ → Bindings → Met → Type 0
+ItemIs ps item ws at b r =
     (n : ℕ) (q : Patterns) (f : Terms) → PatternsAt ps item (suc n) q → RowAt ws at (suc n) f
-    → StepOk (r .ok) ps item ws b r n q f
+    → ItemOk (r .ok) ps item ws b r n q f
 
 -- the whole: the substitutions that agree with what is bound then are those that agreed before and make the patterns the
 -- terms; or there are none

@@ -8,7 +8,7 @@ ghost use Prim.Native.Nat.{_+_, _≤_, _<_};
 ghost use lib.ListN.{length};
 ghost use Rattle.terms.specs.Place.{Well};
 ghost use Rattle.rules.specs.Pattern.{slotOf, Side};
-ghost use Rattle.rules.specs.Match.{spanOf, withSpan, Valid, Rows, Ready, BindIs, OpIs, StepIs, MatchIs, FitIs};
+ghost use Rattle.rules.specs.Match.{spanOf, withSpan, Valid, Rows, Ready, BindIs, opStep, ItemIs, MatchIs, FitIs};
 
 // An item's three words.
 pub struct Slot {
@@ -18,7 +18,7 @@ pub struct Slot {
 }
 
 // What became of one item: where the terms go on, how many terms the item adds to those still to be matched, and what is bound.
-pub struct Step {
+pub struct Met {
     pub ok: bool,
     pub at: usize,
     pub more: usize,
@@ -62,7 +62,7 @@ fn with_span(b: Bindings, x: usize, s: Span) -> Bindings
 }
 
 // A variable meets the term at `at`: it is bound to it, or what it is bound to is compared with it, marks aside.
-fn bind(words: &[u16], x: usize, at: usize, b: Bindings) -> Step
+fn bind(words: &[u16], x: usize, at: usize, b: Bindings) -> Met
     requires { ⌜ x < 16 ⌝ }
     requires { ⌜ Valid (now words) b ⌝ }
     requires { ⌜ Well (now words) at ⌝ }
@@ -73,14 +73,14 @@ fn bind(words: &[u16], x: usize, at: usize, b: Bindings) -> Step
     let from = s.start;
     if from < s.end {
         let same = terms::same_term(words, from, at);
-        return Step {
+        return Met {
             ok: same,
             at: e,
             more: 0,
             bound: b,
         };
     }
-    Step {
+    Met {
         ok: true,
         at: e,
         more: 0,
@@ -88,31 +88,14 @@ fn bind(words: &[u16], x: usize, at: usize, b: Bindings) -> Step
     }
 }
 
-// An operator with its child count meets the node at `at`.
-fn op_step(op: OpNo, count: u16, words: &[u16], at: usize, b: Bindings) -> Step
+// An operator with its child count meets the node at `at`; its children follow.
+fn op_step(op: OpNo, count: u16, words: &[u16], at: usize, b: Bindings) -> Met
     requires { ⌜ at + 4 ≤ length (now words) ⌝ }
-    ensures { λ r. ⌜ OpIs (now (words .entry)) (op .0) count at b r ⌝ }
+    ensures { λ r. ⌜ r ≡ opStep (now (words .entry)) (op .0) count at b ⌝ }
 {
     let n = terms::node_at(words, at);
-    let same = terms::same_op(n.op, op);
-    if !same {
-        return Step {
-            ok: false,
-            at: at,
-            more: 0,
-            bound: b,
-        };
-    }
-    if n.count != count {
-        return Step {
-            ok: false,
-            at: at,
-            more: 0,
-            bound: b,
-        };
-    }
-    Step {
-        ok: true,
+    Met {
+        ok: terms::same_head(n, op, count),
         at: at + 4,
         more: terms::wide(count),
         bound: b,
@@ -120,17 +103,17 @@ fn op_step(op: OpNo, count: u16, words: &[u16], at: usize, b: Bindings) -> Step
 }
 
 // One item meets the term at `at`.
-fn item_step(side: &[u16], item: usize, words: &[u16], at: usize, b: Bindings) -> Step
+fn item_step(side: &[u16], item: usize, words: &[u16], at: usize, b: Bindings) -> Met
     requires { ⌜ Valid (now words) b ⌝ }
     requires { ⌜ Ready (now side) item (now words) at ⌝ }
-    ensures { λ r. ⌜ StepIs (now (side .entry)) item (now (words .entry)) at b r ⌝ }
+    ensures { λ r. ⌜ ItemIs (now (side .entry)) item (now (words .entry)) at b r ⌝ }
 {
     let s = slot_at(side, item);
     let kind = s.kind;
     match kind {
         0 => bind(words, terms::wide(s.number), at, b),
         1 => op_step(OpNo(s.number), s.count, words, at, b),
-        _ => Step {
+        _ => Met {
             ok: false,
             at: at,
             more: 0,

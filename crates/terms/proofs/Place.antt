@@ -1,17 +1,18 @@
 -- What stands at a place: one term and no other, and the rows that a flat walk reads.
 -- Assumes nothing.
 use Prim.Native.Nat.{ℕ, suc, _+_, _-_, _*_, _≤_}
-use mathlib.Core.List.{List, _∷_, _++_}
+use mathlib.Core.List.{List, [], _∷_, _++_, append-nil}
+use mathlib.Core.Option.{some}
 use mathlib.Core.Path.{_≡_, refl, ap, sym, _∙_}
 use native.Mathlib.Omega.{arith}
 use lib.ListN.{length, getD, take, drop, length-append, length-drop, take-append-drop}
 use lib.Seq.{slice, length-slice, length-take-le, take-add, take-append-seam, take-at, drop-at, drop-append-le, drop-append-seam, drop-drop}
-use Rattle.model.specs.Term.{Mark, Terms, noTerms, tree, Term, one, count, join, Narrow, words, markWord, ruleWord}
+use Rattle.model.specs.Term.{Mark, Terms, noTerms, tree, Term, one, count, join, Narrow, words, markWord, ruleWord, read}
 use Rattle.terms.specs.declared.End.{End}
 use Rattle.terms.specs.declared.End.the-variants.{At, Broken}
-use Rattle.terms.specs.Place.{TermAt, RowAt, Well, EndIs}
+use Rattle.terms.specs.Place.{nodeOf, TermAt, RowAt, Well, EndIs}
 use Rattle.terms.proofs.Rows.{count-join, words-join, narrow-join, four-words, one-long, first-words, single, one-term}
-use Rattle.terms.proofs.Read.{words-inj}
+use Rattle.terms.proofs.Read.{read-words, words-inj}
 use Rattle.terms.proofs.Walk.{scan, scan-zero, scan-words, Front, scan-front, drop4}
 
 module _ (ws : List ℕ) (at e : ℕ) (t : Term) (h : TermAt ws at e t) where
@@ -126,6 +127,18 @@ row-tree ws at n o m k s h =
         spelled = rw (← drop-drop, ours) (drop-append-seam (words (one u)) (words s ++ h .rest));
       };
     }
+
+-- the node that the code reads there
+pub tree-node : (ws : List ℕ) (at n o : ℕ) (m : Mark) (k s : Terms) → Tree ws at n o m k s
+    → nodeOf ws at ≡ record { op = record { 0 = o }; count = count k; mark = markWord m; rule = record { 0 = ruleWord m } }
+tree-node ws at n o m k s h = λ i.
+    record { op = record { 0 = h .op i }; count = h .kids i; mark = h .mark i; rule = record { 0 = h .rule i } }
+
+-- words that say a row have it at their start
+pub read-row : (ws : List ℕ) (f : Terms) → read ws ≡ some f → RowAt ws 0 (count f) f
+read-row ws f e =
+    let r = read-words ws f e in
+    record { narrow = r .narrow; counted = refl; rest = []; spelled = r .spelled ∙ sym (append-nil (words f)) }
 
 -- what the code asks for, from a row
 pub row-room : (ws : List ℕ) (at n : ℕ) (f : Terms) → RowAt ws at (suc n) f → at + 4 ≤ length ws

@@ -2,7 +2,7 @@
 -- Assumes nothing.
 use Prim.Native.Nat.{ℕ, zero, suc, _+_, _-_, _*_, _≤_, _<_}
 use mathlib.Core.List.{List}
-use mathlib.Core.Bool.{true, false, false≢true, and-eq-true-iff}
+use mathlib.Core.Bool.{Bool, true, false, false≢true, and-eq-true-iff}
 use mathlib.Core.Path.{_≡_, refl, ap, sym, _∙_}
 use mathlib.Core.Logic.{_↔_}
 use native.Mathlib.Omega.{arith}
@@ -15,15 +15,22 @@ use Rattle.terms.specs.Place.{nodeOf, sameHead, TermAt, RowAt, Well, Sam
 use Rattle.terms.proofs.Rows.{strip-join, count-strip, join-inj, strip-one}
 use Rattle.terms.proofs.Place.{row-tree, row-room, row-fits, term-row}
 
--- nodes that agree, by their words
-pub record Heads (x y : Node) : Type 0 where
-  pub op : x .op .0 ≡ y .op .0
-  pub count : x .count ≡ y .count
+-- a node that agrees, by its words
+pub record Heads (n : Node) (o c : ℕ) : Type 0 where
+  pub op : n .op .0 ≡ o
+  pub count : n .count ≡ c
 
-pub heads : (x y : Node) → sameHead x y ≡ true → Heads x y
-heads x y e =
-    let p = and-eq-true-iff (sameOp (x .op .0) (y .op .0)) (eqb (x .count) (y .count)) .0 e in
+pub heads : (n : Node) (o c : ℕ) → sameHead n o c ≡ true → Heads n o c
+heads n o c e =
+    let p = and-eq-true-iff (sameOp (n .op .0) o) (eqb (n .count) c) .0 e in
     record { op = eqb-true _ _ (p .0); count = eqb-true _ _ (p .1) }
+
+pub heads-same : (n : Node) (o c : ℕ) → Heads n o c → sameHead n o c ≡ true
+heads-same n o c h = rw (eq-eqb _ _ (h .op), eq-eqb _ _ (h .count))
+
+-- the nodes at two places
+abbrev pub sameAt : List ℕ → ℕ → ℕ → Bool
+sameAt ws i j = sameHead (nodeOf ws i) (getD ws j 0) (getD ws (j + 1) 0)
 
 -- what is left of the terms t and u, n rows from i and from j on
 record Left (ws : List ℕ) (i j n : ℕ) (t u : Term) : Type 0 where
@@ -60,7 +67,7 @@ module _ (ws : List ℕ) (a b i j : ℕ) where
   same-done h e e′ t u ht hu = let x = h e e′ t u ht hu in x .same .0 (done (x .f) (x .g) (x .isF) (x .isG))
 
   agree : (n : ℕ) (f g : Terms) → RowAt ws i (suc n) f → RowAt ws j (suc n) g → strip f ≡ strip g
-      → sameHead (nodeOf ws i) (nodeOf ws j) ≡ true
+      → sameAt ws i j ≡ true
   unfolding strip count
   agree n noTerms g hf hg p = absurd (omega (arith, hf .counted))
   agree n (tree o m k s) noTerms hf hg p = absurd (omega (arith, hg .counted))
@@ -69,19 +76,20 @@ module _ (ws : List ℕ) (a b i j : ℕ) where
       let y = row-tree ws j n o′ m′ k′ s′ hg in
       let q : o ≡ o′ = cc in
       let r : strip k ≡ strip k′ = cc in
-      rw (
-        eq-eqb (getD ws i 0) (getD ws j 0) (x .op ∙ q ∙ sym (y .op)),
-        eq-eqb (getD ws (i + 1) 0) (getD ws (j + 1) 0) (x .kids ∙ sym (count-strip k) ∙ ap count r ∙ count-strip k′ ∙ sym (y .kids)),
-      )
+      heads-same (nodeOf ws i) (getD ws j 0) (getD ws (j + 1) 0)
+      (record {
+        op = x .op ∙ q ∙ sym (y .op);
+        count = x .kids ∙ sym (count-strip k) ∙ ap count r ∙ count-strip k′ ∙ sym (y .kids);
+      })
 
-  pub same-off : (n : ℕ) → 0 < n → sameHead (nodeOf ws i) (nodeOf ws j) ≡ false → SameHere ws a b i j n → SameIs ws a b false
+  pub same-off : (n : ℕ) → 0 < n → sameAt ws i j ≡ false → SameHere ws a b i j n → SameIs ws a b false
   unfolding SameHere
   same-off zero l d h e e′ t u ht hu = absurd (omega arith)
   same-off (suc n) l d h e e′ t u ht hu = λ p.
       let x = h e e′ t u ht hu in
       false≢true (sym d ∙ agree n (x .f) (x .g) (x .isF) (x .isG) (x .same .1 p))
 
-  next : (n : ℕ) → Heads (nodeOf ws i) (nodeOf ws j) → (t u : Term) (f g : Terms) → RowAt ws i (suc n) f → RowAt ws j (suc n) g
+  next : (n : ℕ) → Heads (nodeOf ws i) (getD ws j 0) (getD ws (j + 1) 0) → (t u : Term) (f g : Terms) → RowAt ws i (suc n) f → RowAt ws j (suc n) g
       → (strip f ≡ strip g) ↔ (stripped t ≡ stripped u) → Left ws (i + 4) (j + 4) (getD ws (i + 1) 0 + n) t u
   unfolding strip count
   next n q t u noTerms g hf hg w = absurd (omega (arith, hf .counted))
@@ -109,14 +117,14 @@ module _ (ws : List ℕ) (a b i j : ℕ) where
         );
       }
 
-  pub same-next : (n : ℕ) → 0 < n → sameHead (nodeOf ws i) (nodeOf ws j) ≡ true → SameHere ws a b i j n
+  pub same-next : (n : ℕ) → 0 < n → sameAt ws i j ≡ true → SameHere ws a b i j n
       → SameHere ws a b (i + 4) (j + 4) (n - 1 + getD ws (i + 1) 0)
   unfolding SameHere
   same-next zero l q h e e′ t u ht hu = absurd (omega arith)
   same-next (suc n) l q h e e′ t u ht hu =
       let x = h e e′ t u ht hu in
       let m : suc n - 1 + getD ws (i + 1) 0 ≡ getD ws (i + 1) 0 + n = omega arith in
-      rw m (next n (heads (nodeOf ws i) (nodeOf ws j) q) t u (x .f) (x .g) (x .isF) (x .isG) (x .same))
+      rw m (next n (heads (nodeOf ws i) (getD ws j 0) (getD ws (j + 1) 0) q) t u (x .f) (x .g) (x .isF) (x .isG) (x .same))
 
   -- room for what is left, and for the next two nodes
   pub record Room (n : ℕ) : Type 0 where

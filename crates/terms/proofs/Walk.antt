@@ -17,7 +17,7 @@ use Rattle.model.specs.Term.{Mark, Terms, noTerms, tree, count, Narrow, markWor
 use Rattle.terms.specs.declared.Node.{Node}
 use Rattle.terms.specs.declared.End.{End}
 use Rattle.terms.specs.declared.End.the-variants.{At, Broken}
-use Rattle.terms.specs.Place.{nodeOf, isMark, okWords, okNode}
+use Rattle.terms.specs.Place.{nodeOf, isSome, okWords, okNode}
 use Rattle.terms.proofs.Rows.{count-join, words-join, narrow-parts}
 use Rattle.terms.proofs.Read.{mark-words, mark-of, CutIs, has-cut}
 
@@ -77,7 +77,7 @@ record Marked (m r : ℕ) : Type 0 where
   first : markWord mark ≡ m
   second : ruleWord mark ≡ r
 
-marked : (m r : ℕ) (k : Option Mark) → markOf m r ≡ k → isMark k ≡ true → Marked m r
+marked : (m r : ℕ) (k : Option Mark) → markOf m r ≡ k → isSome k ≡ true → Marked m r
 marked m r none e i = let z : _≡_ {A = ℕ} 0 1 = cc in absurd (omega arith)
 marked m r (some k) e i = let w = mark-of m r k e in record { mark = k; first = w .0; second = w .1 }
 
@@ -103,7 +103,7 @@ at-node o c m r n at e ws false ok p rec = let z : _≡_ {A = ℕ} 0 1 = cc in a
 at-node o c m r n at e ws true ok p rec =
     let f = rec p in
     let h = has-cut c (f .terms) (omega (arith, f .counted)) in
-    let both = and-eq-true-iff (leb c childLimit) (isMark (markOf m r)) .0 ok in
+    let both = and-eq-true-iff (leb c childLimit) (isSome (markOf m r)) .0 ok in
     node-front o c m r n at e ws (leb-true c childLimit (both .0)) (marked m r (markOf m r) refl (both .1)) f (h .parts) (h .is)
 
 pub scan-front : (ws : List ℕ) (n at e : ℕ) → scan ws n at ≡ At e → Front ws n at e
@@ -147,7 +147,7 @@ turn ws p n d b h k e f = rw (f, e) (scan-step ws p n h k)
 pub ok-count : (d : Node) → okNode d ≡ true → d .count ≤ childLimit
 ok-count d e =
     leb-true (d .count) childLimit
-    (and-eq-true-iff (leb (d .count) childLimit) (isMark (markOf (d .mark) (d .rule .0))) .0 e .0)
+    (and-eq-true-iff (leb (d .count) childLimit) (isSome (markOf (d .mark) (d .rule .0))) .0 e .0)
 
 -- no node where there is no room for one
 short : (l : List ℕ) (n at : ℕ) → length l < 4 → 0 < n → scan l n at ≡ Broken

@@ -24,19 +24,19 @@ nodeOf ws at = record {
 }
 
 -- "count above 8, mark above 2, unmarked node with a rule": none of these
-abbrev pub isMark : Option Mark → Bool
-isMark none = false
-isMark (some m) = true
+abbrev pub isSome : Option Mark → Bool
+isSome none = false
+isSome (some m) = true
 
 abbrev pub okWords : ℕ → ℕ → ℕ → Bool
-okWords c m r = leb c childLimit && isMark (markOf m r)
+okWords c m r = leb c childLimit && isSome (markOf m r)
 
 abbrev pub okNode : Node → Bool
 okNode n = okWords (n .count) (n .mark) (n .rule .0)
 
 -- "operator and count agree"
-abbrev pub sameHead : Node → Node → Bool
-sameHead x y = sameOp (x .op .0) (y .op .0) && eqb (x .count) (y .count)
+abbrev pub sameHead : Node → ℕ → ℕ → Bool
+sameHead n o c = sameOp (n .op .0) o && eqb (n .count) c
 
 -- the words from `at` up to e are those of the one term t
 pub record TermAt (ws : List ℕ) (at e : ℕ) (t : Term) : Type 0 where

@@ -29,7 +29,7 @@ pub enum Whole {
     Broken,
 }
 
-// A word as a count of terms.
+// A word as a count or a place.
 pub fn wide(x: u16) -> usize
     ensures { λ r. ⌜ r ≡ x ⌝ }
 {
@@ -71,14 +71,14 @@ pub fn same_op(a: OpNo, b: OpNo) -> bool
     a.0 == b.0
 }
 
-// Whether two nodes agree in operator and count.
-pub fn same_head(x: Node, y: Node) -> bool
-    ensures { λ r. ⌜ r ≡ sameHead x y ⌝ }
+// Whether a node has this operator and this count.
+pub fn same_head(n: Node, op: OpNo, count: u16) -> bool
+    ensures { λ r. ⌜ r ≡ sameHead n (op .0) count ⌝ }
 {
-    if !same_op(x.op, y.op) {
+    if !same_op(n.op, op) {
         return false;
     }
-    x.count == y.count
+    n.count == count
 }
 
 // Where the term at `at` ends, on any words: each node read takes one from the terms still to be read, and adds its children.
@@ -129,7 +129,7 @@ pub fn same_term(words: &[u16], a: usize, b: usize) -> bool
     while 0 < pending {
         let x = node_at(words, i);
         let y = node_at(words, j);
-        if !same_head(x, y) {
+        if !same_head(x, y.op, y.count) {
             return false;
         }
         pending = pending - 1 + wide(x.count);

@@ -5,8 +5,7 @@ use native.Mathlib.Omega.{arith}
 use Prim.Native.Nat.{_<_}
 use mathlib.Core.Path.{sym, subst}
 use Rattle.model.specs.declared.Span.{Span}
-use Rattle.model.specs.Term.{Term}
-use Rattle.terms.specs.Place.{TermAt}
+use Rattle.terms.specs.Place.{EndsAt}
 use Rattle.terms.proofs.Place.{term-well, end-same}
 use Rattle.rules.specs.Match.{IsBound}
 use Rattle.rules.proofs.Binding.{bind-old, bind-new}
@@ -23,14 +22,15 @@ span-of-requires c κs = search needs
 bound : (c : tie.Then1) → let a = c .before .before .before .before .before .args in IsBound (a .b) (a .x)
 bound c = subst (λ (s : Span). s .start < s .end) (c .before .before .span-of .ensures) (c .if1 .taken)
 
-old : (c : tie.Then1) → (t : Term) × TermAt (c .before .before .before .before .before .args .words .now) (c .before .before .span-of .result .start) (c .before .before .span-of .result .end) t
+old : (c : tie.Then1)
+    → EndsAt (c .before .before .before .before .before .args .words .now) (c .before .before .span-of .result .start) (c .before .before .span-of .result .end)
 old c =
     let s = c .before .before .before .before .before in
-    let w = s .pre .1 .0 .terms (s .args .x) (s .pre .0) (bound c) in
-    (w .0, subst (λ (p : Span). TermAt (s .args .words .now) (p .start) (p .end) (w .0)) (sym (c .before .before .span-of .ensures)) (w .1))
+    subst (λ (p : Span). EndsAt (s .args .words .now) (p .start) (p .end)) (sym (c .before .before .span-of .ensures))
+    (s .pre .1 .0 .terms (s .args .x) (s .pre .0) (bound c))
 
 same-term-requires : tie.Need-same-term-requires
-same-term-requires c κs = (term-well _ _ _ (old c .0) (old c .1), c .before .before .before .before .before .pre .1 .1)
+same-term-requires c κs = (term-well _ _ _ (old c .term) (old c .is), c .before .before .before .before .before .pre .1 .1)
 
 returns : tie.Need-returns
 unfolding old
@@ -41,7 +41,7 @@ returns c = λ e t ht.
     let o = old (c .before) in
     rw (end-same (a .words .now) (a .at) _ e (f .term) t (f .is) ht)
     (bind-old (a .words .now) (a .b) (a .x) (a .at) e (s .pre .0) (s .pre .1 .0) t ht (c .same-term .result) (bound (c .before))
-    (c .same-term .ensures _ e (o .0) t (o .1) ht))
+    (c .same-term .ensures _ e (o .term) t (o .is) ht))
 
 with-span-requires : tie.Need-with-span-requires
 with-span-requires c κs = search needs

@@ -3,14 +3,13 @@
 -- Assumes nothing.
 use borrow.Author.Needs.{needs}
 use native.Mathlib.Omega.{arith}
-use Prim.Native.Nat.{ℕ, _+_}
+use Prim.Native.Nat.{ℕ}
 use mathlib.Core.Bool.{false}
-use mathlib.Core.Path.{_≡_, sym, ap, subst, subst₂, _∙_}
+use mathlib.Core.Path.{_≡_, sym, ap, _∙_}
 use lib.ListN.{getD}
 use Rattle.terms.proofs.Place.{row-room as term-room, row-well}
 use Rattle.rules.specs.declared.Slot.{Slot}
 use Rattle.rules.specs.Pattern.{slotOf}
-use Rattle.rules.specs.Match.{BindIs, OpIs}
 use Rattle.rules.proofs.Patterns.{row-room, row-small}
 use Rattle.rules.proofs.Item.{bind-step, op-step, other-step}
 use Rattle.rules.proofs.item_step.Statement.{statement}
@@ -51,17 +50,16 @@ returns : tie.Need-returns
 returns c =
     let i = c .before .before .before in
     let a = i .before .before .before .args in
-    let k : c .before .wide .result ≡ getD (a .side .now) (a .item + 1) 0 = c .before .wide .ensures ∙ sym (slot i (λ (x : Slot). x .number)) in
     bind-step (a .side .now) (a .item) (a .words .now) (a .at) (a .b) (c .bind .result) (kind i ∙ c .before .before .match .keys1)
-    (subst (λ (x : ℕ). BindIs (a .words .now) x (a .at) (a .b) (c .bind .result)) k (c .bind .ensures))
+    (c .before .wide .result) (slot i (λ (x : Slot). x .number) ∙ sym (c .before .wide .ensures)) (c .bind .ensures)
 
 returns-2 : tie.Need-returns-2
 returns-2 c =
     let i = c .before .before in
     let s = i .before .before .before in
     let a = s .args in
-    op-step (a .side .now) (a .item) (a .words .now) (a .at) (a .b) (c .op-step .result) (s .pre .0) (kind i ∙ c .before .match .keys2)
-    (subst₂ (λ (o n : ℕ). OpIs (a .words .now) o n (a .at) (a .b) (c .op-step .result)) (sym (slot i (λ (x : Slot). x .number))) (sym (slot i (λ (x : Slot). x .count))) (c .op-step .ensures))
+    op-step (a .side .now) (a .item) (a .words .now) (a .at) (a .b) (s .pre .0) (c .op-step .result) (kind i ∙ c .before .match .keys2)
+    _ _ (slot i (λ (x : Slot). x .number)) (slot i (λ (x : Slot). x .count)) (c .op-step .ensures)
 
 returns-3 : tie.Need-returns-3
 returns-3 c =

@@ -7,21 +7,21 @@ use native.Mathlib.Omega.{arith}
 use lib.Dec.{leb, eqb, eqb·suc-zero}
 use borrow.Author.Tests.{lt-leb, le-leb}
 use Rattle.model.specs.Term.{markOf}
-use Rattle.terms.specs.Place.{isMark}
+use Rattle.terms.specs.Place.{isSome}
 use Rattle.terms.proofs.node_ok.Statement.{statement}
 use Rattle.terms.proofs.node_ok.Tie as tie
 
-no-rule : (r : ℕ) → eqb r 0 ≡ isMark (markOf 0 r)
+no-rule : (r : ℕ) → eqb r 0 ≡ isSome (markOf 0 r)
 no-rule zero = refl
 no-rule (suc r) = eqb·suc-zero r
 
-marked : (m r : ℕ) → (m ≡ 0 → ⊥) → m < 3 → true ≡ isMark (markOf m r)
+marked : (m r : ℕ) → (m ≡ 0 → ⊥) → m < 3 → true ≡ isSome (markOf m r)
 marked zero r f h = absurd (f refl)
 marked (suc zero) r f h = refl
 marked (suc (suc zero)) r f h = refl
 marked (suc (suc (suc m))) r f h = absurd (omega arith)
 
-no-mark : (m r : ℕ) → 3 ≤ m → false ≡ isMark (markOf m r)
+no-mark : (m r : ℕ) → 3 ≤ m → false ≡ isSome (markOf m r)
 no-mark zero r h = absurd (omega arith)
 no-mark (suc zero) r h = absurd (omega arith)
 no-mark (suc (suc zero)) r h = absurd (omega arith)

@@ -13,7 +13,7 @@ returns : tie.Need-returns
 returns c = simp (sym (c .before .same-op .ensures) ∙ not-true _ (c .if1 .taken))
 
 returns-2 : tie.Need-returns-2
-returns-2 c = simp (sym (c .before .before .before .same-op .ensures) ∙ not-false _ (c .before .before .if1 .left))
+returns-2 c = simp (sym (c .before .before .same-op .ensures) ∙ not-false _ (c .before .if1 .left))
 
 pub same-head-spec : {M : Type 1} → statement M
 same-head-spec = tie.close (tie.spec same-op-requires returns returns-2)

@@ -9,8 +9,8 @@ use mathlib.Core.Bool.{Bool}
 use mathlib.Core.Path.{_≡_, sym, ap, subst, _∙_}
 use lib.ListN.{length, getD}
 use Rattle.terms.specs.declared.Node.{Node}
-use Rattle.terms.specs.Place.{nodeOf, sameHead}
-use Rattle.terms.proofs.SameWalk.{SameHere, same-first, same-done, same-off, same-next, Room, same-room}
+use Rattle.terms.specs.Place.{sameHead}
+use Rattle.terms.proofs.SameWalk.{sameAt, SameHere, same-first, same-done, same-off, same-next, Room, same-room}
 use Rattle.terms.proofs.same_term.Statement.{statement}
 use Rattle.terms.proofs.same_term.Tie as tie
 
@@ -42,11 +42,11 @@ same-head-requires c κs = search needs
 -- what was found of the two nodes
 told : (c : tie.After-same-head Inv-loop μ-loop) (b : Bool) → c .same-head .result ≡ b
     → let l = c .before .before .before .before .loop in let ws = c .before .before .before .before .before .before .args .words .now in
-    sameHead (nodeOf ws (l .i)) (nodeOf ws (l .j)) ≡ b
+    sameAt ws (l .i) (l .j) ≡ b
 told c b e =
     let p = sym (c .before .before .node-at .ensures) in
     let q = sym (c .before .node-at2 .ensures) in
-    (λ i. sameHead (p i) (q i)) ∙ sym (c .same-head .ensures) ∙ e
+    (λ i. sameHead (p i) (q i .op .0) (q i .count)) ∙ sym (c .same-head .ensures) ∙ e
 
 returns : tie.Need-returns Inv-loop μ-loop
 returns c =

@@ -57,7 +57,8 @@ loop-again : tie.Need-loop-again Inv-loop μ-loop
 loop-again c =
     let l = c .before .before .before .before .before .loop in
     let f = found (c .before) in
-    (l .inv .0, whole-next _ (l .pos) (l .n) (c .before .found .given .0 .0) (f .term) (f .is) (l .inv .1))
+    let ws = c .before .before .before .before .before .before .before .args .words .now in
+    (l .inv .0, whole-next ws (l .pos) (l .n) (c .before .found .given .0 .0) (f .term) (f .is) (l .inv .1))
 
 returns-2 : tie.Need-returns-2 Inv-loop μ-loop
 returns-2 c =
