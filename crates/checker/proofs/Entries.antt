@@ -15,7 +15,7 @@ use Rattle.model.specs.Tables.{itemOf, itemFront, itemsFrom}
 use Rattle.terms.specs.Place.{Decides}
 use Rattle.rules.specs.Pattern.{PatternsAt, Side}
 use Rattle.rule_table.proofs.Sides.{SideIs}
-use Rattle.checker.proofs.Fits.{fits-instance, instance-fits}
+use Rattle.checker.proofs.Steps.{fits-instance, instance-fits}
 
 -- the words of a part of a table
 part-word : (ws : List ℕ) (a m i : ℕ) → i < m → getD (take m (drop a ws)) i 0 ≡ getD ws (a + i) 0

@@ -1,4 +1,3 @@
-pub mod Fits
 pub mod Steps
 pub mod Verdicts
 pub mod DemandTwo

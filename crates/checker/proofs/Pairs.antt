@@ -16,7 +16,7 @@ use Rattle.model.specs.Step.{allowed, step}
 use Rattle.terms.specs.declared.Node.{Node}
 use Rattle.terms.specs.Place.{nodeOf, sameHead, TermAt, RowAt, Well, EndsAt}
 use Rattle.terms.proofs.Place.{Tree, row-tree, row-room, row-well, row-fits, term-row, end-same}
-use Rattle.terms.proofs.SameWalk.{Heads, heads}
+use Rattle.terms.proofs.SameWalk.{heads, heads-same, sameAt}
 use Rattle.marks.proofs.Left.{ends}
 use Rattle.rule_table.specs.Entries.{rulesIn, Accepted}
 use Rattle.checker.specs.declared.Pair.{Pair}
@@ -93,16 +93,15 @@ marked-over rs o o′ m (forward n) k k′ s s′ h = refl
 marked-over rs o o′ m (backward n) k k′ s s′ h = refl
 
 -- where heads differ, operators or counts do
-differ : (x y : Node) → sameHead x y ≡ false → x .op .0 ≡ y .op .0 → x .count ≡ y .count → ⊥
-differ x y e p q =
-    true≢false (sym (ap (λ (b : Bool). b && eqb (x .count) (y .count)) (eq-eqb _ _ p) ∙ eq-eqb _ _ q) ∙ e)
+differ : (n : Node) (o c : ℕ) → sameHead n o c ≡ false → n .op .0 ≡ o → n .count ≡ c → ⊥
+differ n o c e p q = true≢false (sym (heads-same n o c (record { op = p; count = q })) ∙ e)
 
 module _ (rs : List Rule) (ws : List ℕ) (i j n : ℕ) where
   plain : (o o′ : ℕ) (m m′ : Mark) (k k′ s s′ : Terms) → Tree ws i n o m k s → Tree ws j n o′ m′ k′ s′ → getD ws (j + 2) 0 ≡ 0
-      → (b : Bool) → sameHead (nodeOf ws i) (nodeOf ws j) ≡ b
+      → (b : Bool) → sameAt ws i j ≡ b
       → PairOk b rs ws i (record { ok = b; i = i + 4; j = j + 4; more = getD ws (j + 1) 0 }) n (tree o m k s) (tree o′ m′ k′ s′)
   plain o o′ m m′ k k′ s s′ x y z true e =
-      let h = heads (nodeOf ws i) (nodeOf ws j) e in
+      let h = heads (nodeOf ws i) (getD ws j 0) (getD ws (j + 1) 0) e in
       let c : count k ≡ getD ws (j + 1) 0 = sym (x .kids) ∙ h .count in
       let c′ : count k′ ≡ getD ws (j + 1) 0 = sym (y .kids) in
       record {
@@ -118,11 +117,11 @@ module _ (rs : List Rule) (ws : List ℕ) (i j n : ℕ) where
       elim (ℕ-discrete o o′) [
         | yes p ↦
             other-count rs o o′ m m′ k k′ s s′ (sym (y .mark) ∙ z)
-            (λ c. differ (nodeOf ws i) (nodeOf ws j) e (x .op ∙ (p ∙ sym (y .op))) (x .kids ∙ (c ∙ sym (y .kids))))
+            (λ c. differ (nodeOf ws i) (getD ws j 0) (getD ws (j + 1) 0) e (x .op ∙ (p ∙ sym (y .op))) (x .kids ∙ (c ∙ sym (y .kids))))
         | no p ↦ other-op rs o o′ m m′ k k′ s s′ (sym (y .mark) ∙ z) p
       ]
 
-  pub pair-plain : (f g : Terms) → RowAt ws i (suc n) f → RowAt ws j (suc n) g → getD ws (j + 2) 0 ≡ 0 → (b : Bool) → sameHead (nodeOf ws i) (nodeOf ws j) ≡ b
+  pub pair-plain : (f g : Terms) → RowAt ws i (suc n) f → RowAt ws j (suc n) g → getD ws (j + 2) 0 ≡ 0 → (b : Bool) → sameAt ws i j ≡ b
       → PairOk b rs ws i (record { ok = b; i = i + 4; j = j + 4; more = getD ws (j + 1) 0 }) n f g
   unfolding count
   pair-plain noTerms g hf hg z b e = absurd (omega (arith, hf .counted))

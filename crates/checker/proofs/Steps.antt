@@ -9,7 +9,9 @@ use borrow.Author.Tests.{eqb-true, eq-eqb}
 use Rattle.model.specs.Term.{Mark, unmarked, forward, backward, Terms, noTerms, tree}
 use Rattle.model.specs.Rule.{Rule, listed, isListed}
 use Rattle.model.specs.Step.{ByRule, Allowed, Step, fitsRule, allowed, step, isForward, isBackward, isMark, someMark, nestedIn, nested, namesUnlisted, unlisted}
-use Rattle.checker.proofs.Fits.{fits-instance, instance-fits}
+use Rattle.model.specs.Pattern.{Patterns, Instance, fits}
+use Rattle.terms.specs.Place.{Decides}
+use Rattle.rules.proofs.Matching.{fits-decides}
 
 -- both parts of a conjunction
 pub both : (a b : Bool) → (a && b) ≡ true → (a ≡ true) × (b ≡ true)
@@ -18,6 +20,17 @@ both false b h = absurd (true≢false (sym h))
 
 and : {a b : Bool} → a ≡ true → b ≡ true → (a && b) ≡ true
 and p q = cc
+
+-- the computed match, both ways
+pub fits-instance : (l r : Patterns) (s t : Terms) → fits l r s t ≡ true → Instance l r s t
+fits-instance l r s t e = subst (λ (b : Bool). Decides b (Instance l r s t)) e (fits-decides l r s t)
+
+pub instance-fits : (l r : Patterns) (s t : Terms) → Instance l r s t → fits l r s t ≡ true
+instance-fits l r s t i = go (fits l r s t) refl
+  where
+    go : (b : Bool) → fits l r s t ≡ b → fits l r s t ≡ true
+    go true e = e
+    go false e = absurd (subst (λ (b : Bool). Decides b (Instance l r s t)) e (fits-decides l r s t) i)
 
 fits-rule : (rs : List Rule) (n : ℕ) (o : Option Rule) (s t : Terms) → listed rs n ≡ o → fitsRule o s t ≡ true → ByRule rs n s t
 fits-rule rs n none s t e h = absurd (true≢false (sym h))

@@ -104,7 +104,7 @@ fn pair_step(rules: &[u16], count: usize, words: &[u16], i: usize, j: usize) -> 
     let x = terms::node_at(words, i);
     let y = terms::node_at(words, j);
     if y.mark == 0 {
-        let same = terms::same_head(x, y);
+        let same = terms::same_head(x, y.op, y.count);
         return Pair {
             ok: same,
             i: i + 4,

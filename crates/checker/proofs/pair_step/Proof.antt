@@ -6,7 +6,8 @@ use Prim.Native.Nat.{ℕ, _+_}
 use mathlib.Core.Path.{_≡_, sym, ap, subst, _∙_}
 use lib.ListN.{getD}
 use Rattle.terms.specs.declared.Node.{Node}
-use Rattle.terms.specs.Place.{nodeOf, sameHead}
+use Rattle.terms.specs.Place.{sameHead}
+use Rattle.terms.proofs.SameWalk.{sameAt}
 use Rattle.terms.proofs.Place.{well-room}
 use Rattle.checker.specs.Check.{PairOk}
 use Rattle.checker.proofs.Pairs.{pair-plain, pair-marked}
@@ -46,7 +47,7 @@ returns c = λ rs are n f g hf hg.
     let same = c .before .same-head in
     let x = sym (d .before .before .node-at .ensures) in
     let y = sym (d .before .node-at2 .ensures) in
-    let head : sameHead (nodeOf (a .words .now) (a .i)) (nodeOf (a .words .now) (a .j)) ≡ same .result = (λ k. sameHead (x k) (y k)) ∙ sym (same .ensures) in
+    let head : sameAt (a .words .now) (a .i) (a .j) ≡ same .result = (λ k. sameHead (x k) (y k .op .0) (y k .count)) ∙ sym (same .ensures) in
     let kids : getD (a .words .now) (a .j + 1) 0 ≡ c .wide .result = ap (λ (z : Node). z .count) y ∙ sym (c .wide .ensures) in
     subst (λ (k : ℕ). PairOk (same .result) rs (a .words .now) (a .i) (record { ok = same .result; i = a .i + 4; j = a .j + 4; more = k }) n f g) kids
     (pair-plain rs (a .words .now) (a .i) (a .j) n f g hf hg (mark d ∙ c .before .before .if1 .taken) (same .result) head)
