@@ -6,3 +6,4 @@ pub mod Names
 pub mod Entries
 pub mod Allow
 pub mod Pairs
+pub mod Later

@@ -7,15 +7,17 @@ use mathlib.Core.Option.{some}
 use mathlib.Core.Path.{_≡_}
 use lib.ListN.{length}
 use Rattle.model.specs.declared.Verdict.{Verdict}
+use Rattle.model.specs.declared.Verdict.the-variants.{Accepted}
 use Rattle.model.specs.Judged.{good}
-use Rattle.model.specs.Term.{Mark, markWord, ruleWord, Terms, Term, one}
+use Rattle.model.specs.Term.{Mark, markWord, ruleWord, Terms, noTerms, tree, Term, one}
 use Rattle.model.specs.Pattern.{fits}
 use Rattle.model.specs.Rule.{Rule, listed}
 use Rattle.model.specs.Tables.{ruleEntry}
-use Rattle.model.specs.Step.{fitsRule, allowed, step, namesUnlisted, unlisted}
-use Rattle.model.specs.Verdict.{laterVerdict}
+use Rattle.model.specs.Step.{fitsRule, allowed, step, someMark, isMark, isForward, isBackward, nested, namesUnlisted, unlisted}
+use Rattle.model.specs.Verdict.{chainVerdict, termsVerdict, verdict}
 use Rattle.terms.specs.declared.Node.{Node}
 use Rattle.terms.specs.Place.{TermAt, RowAt}
+use Rattle.marks.specs.declared.Marks.{Marks}
 use Rattle.rule_table.specs.Entries.{rulesIn}
 use Rattle.checker.specs.declared.Pair.{Pair}
 
@@ -75,3 +77,38 @@ abbrev pub StepIs : List ℕ → ℕ → List ℕ → ℕ → ℕ → Bool → T
 StepIs rws count ws a b r =
     (rs : List Rule) → rulesIn rws count ≡ good rs → (e e′ : ℕ) (t u : Term) → TermAt ws a e t → TermAt ws b e′ u
     → r ≡ step rs (one t) (one u)
+
+-- 15: "a later term has no mark, or marks of both directions"; no fault where there are marks of one direction
+abbrev pub oneWay : Marks → Bool
+oneWay m = not (not (m .forward || m .backward) || (m .forward && m .backward))
+
+-- "each later term in order by 15, 18, 16, 17": the first that holds, or 0
+abbrev pub faultIf : Bool → ℕ → ℕ → ℕ
+faultIf true n f = n
+faultIf false n f = f
+
+unfoldable pub faultOf : List Rule → Terms → Terms → ℕ
+unfolding step someMark nested unlisted
+faultOf rs s t =
+    faultIf (not (someMark isMark t) || (someMark isForward t && someMark isBackward t)) 15
+    (faultIf (nested t) 18 (faultIf (unlisted rs t) 16 (faultIf (not (step rs s t)) 17 0)))
+
+abbrev pub FaultIs : List ℕ → ℕ → List ℕ → ℕ → ℕ → ℕ → Type 0
+FaultIs rws count ws before at r =
+    (rs : List Rule) → rulesIn rws count ≡ good rs → (e e′ : ℕ) (s t : Term) → TermAt ws before e s → TermAt ws at e′ t
+    → r ≡ faultOf rs (one s) (one t)
+
+-- the verdict on the later terms of a row, and on the row
+abbrev pub chainOf : List Rule → Terms → Verdict
+chainOf rs noTerms = Accepted 0
+chainOf rs (tree o m k f) = chainVerdict rs 1 (tree o m k noTerms) f
+
+abbrev pub ChainIs : List ℕ → ℕ → List ℕ → ℕ → Verdict → Type 0
+ChainIs rws count ws n r = (rs : List Rule) → rulesIn rws count ≡ good rs → (f : Terms) → RowAt ws 0 n f → r ≡ chainOf rs f
+
+abbrev pub TermsIs : List ℕ → ℕ → List ℕ → ℕ → Verdict → Type 0
+TermsIs rws count ws n r = (rs : List Rule) → rulesIn rws count ≡ good rs → (f : Terms) → RowAt ws 0 n f → r ≡ termsVerdict rs (some f)
+
+-- the whole: what the strict checker says
+abbrev pub VerdictIs : List ℕ → ℕ → List ℕ → Verdict → Type 0
+VerdictIs rws count ws r = (rs : List Rule) → rulesIn rws count ≡ good rs → r ≡ verdict rs ws

@@ -1,12 +1,17 @@
 // The strict checker. For each later term it judges, in this order: marks (15), marks inside another's subterm (18), unlisted
 // rules (16), and the step from the term before (17). Terms are walked flat.
+use marks::Marks;
 use model::RuleNo;
+use model::Verdict;
 use rule_table::Listed;
 use terms::Node;
+use terms::Whole;
 ghost use mathlib.Core.Path.{_≡_};
+ghost use Prim.Native.Nat.{_<_};
 ghost use Rattle.terms.specs.Place.{Well};
+ghost use Rattle.marks.specs.Marks.{HasRow};
 ghost use Rattle.rule_table.specs.Entries.{Accepted};
-ghost use Rattle.checker.specs.Check.{NamesIs, UnlistedIs, Holds, EntryFits, FitsIs, AllowedIs, PairIs, StepIs};
+ghost use Rattle.checker.specs.Check.{NamesIs, UnlistedIs, Holds, EntryFits, FitsIs, AllowedIs, PairIs, StepIs, oneWay, FaultIs, ChainIs, TermsIs, VerdictIs};
 
 // Whether a node's mark names a rule that is not listed.
 fn names_unlisted(rules: &[u16], count: usize, n: Node) -> bool
@@ -141,4 +146,93 @@ fn step_at(rules: &[u16], count: usize, words: &[u16], a: usize, b: usize) -> bo
         j = p.j;
     }
     true
+}
+
+// Whether marks are one or more of one direction.
+fn one_way(m: Marks) -> bool
+    ensures { λ r. ⌜ r ≡ oneWay m ⌝ }
+{
+    if m.forward {
+        return !m.backward;
+    }
+    m.backward
+}
+
+// Why the term at `at` may not follow the term at `before`: 15, 18, 16 or 17, the first that holds; 0 where it may.
+fn later_fault(rules: &[u16], count: usize, words: &[u16], before: usize, at: usize) -> u16
+    requires { ⌜ Accepted (now rules) count ⌝ }
+    requires { ⌜ Well (now words) before ⌝ }
+    requires { ⌜ Well (now words) at ⌝ }
+    ensures { λ r. ⌜ FaultIs (now (rules .entry)) count (now (words .entry)) before at r ⌝ }
+{
+    let m = marks::marks_in(words, at, 1);
+    if !one_way(m) {
+        return 15;
+    }
+    if marks::nested_in(words, at) {
+        return 18;
+    }
+    if unlisted_in(rules, count, words, at) {
+        return 16;
+    }
+    if !step_at(rules, count, words, before, at) {
+        return 17;
+    }
+    0
+}
+
+// The verdict on the later ones of n terms, each judged behind the one before it.
+fn later_terms(rules: &[u16], count: usize, words: &[u16], n: usize) -> Verdict
+    requires { ⌜ Accepted (now rules) count ⌝ }
+    requires { ⌜ HasRow (now words) 0 n ⌝ }
+    requires { ⌜ 0 < n ⌝ }
+    ensures { λ r. ⌜ ChainIs (now (rules .entry)) count (now (words .entry)) n r ⌝ }
+{
+    let mut before: usize = 0;
+    let mut at = terms::end_of(words, 0);
+    let mut k: usize = 1;
+    while k < n {
+        let fault = later_fault(rules, count, words, before, at);
+        if fault != 0 {
+            return Verdict::Rejected(fault, k);
+        }
+        before = at;
+        at = terms::end_of(words, at);
+        k += 1;
+    }
+    Verdict::Accepted(n)
+}
+
+// The verdict on n whole terms: 19 for terms, 14, then the later ones.
+fn terms_verdict(rules: &[u16], count: usize, words: &[u16], n: usize) -> Verdict
+    requires { ⌜ Accepted (now rules) count ⌝ }
+    requires { ⌜ HasRow (now words) 0 n ⌝ }
+    requires { ⌜ 0 < n ⌝ }
+    ensures { λ r. ⌜ TermsIs (now (rules .entry)) count (now (words .entry)) n r ⌝ }
+{
+    if n > 4096 {
+        return Verdict::Rejected(19, 0);
+    }
+    if marks::marked(words, 0, 1) {
+        return Verdict::Rejected(14, 0);
+    }
+    later_terms(rules, count, words, n)
+}
+
+// The strict checker over an accepted rule table and any words: 19 for words, 12, 13, then the terms. It writes nothing.
+pub fn check(rules: &[u16], count: usize, words: &[u16]) -> Verdict
+    requires { ⌜ Accepted (now rules) count ⌝ }
+    ensures { λ r. ⌜ VerdictIs (now (rules .entry)) count (now (words .entry)) r ⌝ }
+{
+    if words.len() > 1048576 {
+        return Verdict::Rejected(19, 0);
+    }
+    if words.len() == 0 {
+        return Verdict::Rejected(12, 0);
+    }
+    let whole = terms::whole_terms(words);
+    match whole {
+        Whole::Count(n) => terms_verdict(rules, count, words, n),
+        Whole::Broken => Verdict::Rejected(13, 0),
+    }
 }

@@ -1,0 +1,84 @@
+-- `checker::later_terms` meets its contract. The loop's invariant: the verdict on what is left behind the term at `before` is that on all
+-- terms. The measure is how many terms are left. Assumes nothing.
+use borrow.Author.Needs.{needs}
+use native.Mathlib.Omega.{arith}
+use Prim.Native.Nat.{ℕ, zero, suc, _-_, _<_}
+use mathlib.Core.List.{List}
+use mathlib.Core.Path.{_≡_, sym, subst, _∙_}
+use Rattle.terms.specs.Place.{Well}
+use Rattle.terms.proofs.Place.{row-well}
+use Rattle.marks.specs.Marks.{HasRow}
+use Rattle.checker.specs.Check.{FaultIs}
+use Rattle.checker.proofs.Later.{LaterHere, later-first, later-next, later-found, later-done, later-before, later-at}
+use Rattle.checker.proofs.later_terms.Statement.{statement}
+use Rattle.checker.proofs.later_terms.Tie as tie
+
+abbrev Inv-loop : tie.InvT-loop
+Inv-loop rules count words n before₀ at₀ k₀ before at k = LaterHere rules count words n before at k
+
+abbrev μ-loop : tie.MeasureT-loop
+μ-loop rules count words n before₀ at₀ k₀ before at k = n - k
+
+-- the first of some terms
+first : (ws : List ℕ) (n : ℕ) → 0 < n → HasRow ws 0 n → Well ws 0
+first ws zero l r = absurd (omega arith)
+first ws (suc n) l r = row-well ws 0 n (r .terms) (r .is)
+
+end-of-requires : tie.Need-end-of-requires Inv-loop μ-loop
+end-of-requires c κs = let s = c .before .before in first (s .args .words .now) (s .args .n) (s .pre .1 .1) (s .pre .1 .0)
+
+loop-holds : tie.Need-loop-holds Inv-loop μ-loop
+loop-holds c =
+    let s = c .before .before .before in
+    later-first (s .args .rules .now) (s .args .count) (s .args .words .now) (s .args .n) (s .pre .1 .1) (c .end-of .result) (c .end-of .ensures)
+
+later-fault-requires : tie.Need-later-fault-requires Inv-loop μ-loop
+later-fault-requires c κs =
+    let l = c .before .loop in
+    let s = c .before .before .before .before .before in
+    let a = s .args in (
+      s .pre .0,
+      (
+        later-before (a .rules .now) (a .count) (a .words .now) (a .n) (l .before) (l .at) (l .k) (l .inv) (s .pre .0) (s .pre .1 .0),
+        later-at (a .rules .now) (a .count) (a .words .now) (a .n) (l .before) (l .at) (l .k) (l .inv) (s .pre .0) (s .pre .1 .0) (omega arith),
+      ),
+    )
+
+returns : tie.Need-returns Inv-loop μ-loop
+returns c =
+    let d = c .before in
+    let l = d .before .before .loop in
+    let a = d .before .before .before .before .before .before .args in
+    later-found (a .rules .now) (a .count) (a .words .now) (a .n) (l .before) (l .at) (l .k) (l .inv) (omega arith) (d .later-fault .result) (c .if1 .taken) (d .later-fault .ensures)
+
+end-of-requires-2 : tie.Need-end-of-requires-2 Inv-loop μ-loop
+end-of-requires-2 c κs =
+    let l = c .before .before .before .loop in
+    let s = c .before .before .before .before .before .before .before in
+    let a = s .args in
+    later-at (a .rules .now) (a .count) (a .words .now) (a .n) (l .before) (l .at) (l .k) (l .inv) (s .pre .0) (s .pre .1 .0) (omega arith)
+
+add-k : tie.Need-add-k Inv-loop μ-loop
+add-k c = let s = c .before .before .before .before .before .before .before .before in omega (arith, s .fits .n)
+
+loop-less : tie.Need-loop-less Inv-loop μ-loop
+loop-less c = omega arith
+
+loop-again : tie.Need-loop-again Inv-loop μ-loop
+loop-again c =
+    let d = c .before .before in
+    let l = d .before .before .loop in
+    let a = d .before .before .before .before .before .before .args in
+    later-next (a .rules .now) (a .count) (a .words .now) (a .n) (l .before) (l .at) (l .k) (l .inv) (omega arith)
+    (subst (FaultIs (a .rules .now) (a .count) (a .words .now) (l .before) (l .at)) (c .before .if1 .left) (d .later-fault .ensures)) (c .end-of2 .result) (c .end-of2 .ensures)
+
+returns-2 : tie.Need-returns-2 Inv-loop μ-loop
+returns-2 c =
+    let l = c .before .loop in
+    let a = c .before .before .before .before .before .args in
+    later-done (a .rules .now) (a .count) (a .words .now) (a .n) (l .before) (l .at) (l .k) (l .inv) (omega arith)
+
+pub later-terms-spec : {M : Type 1} → statement M
+later-terms-spec =
+    tie.close
+    (tie.spec Inv-loop μ-loop end-of-requires loop-holds later-fault-requires returns end-of-requires-2 add-k loop-less loop-again returns-2)
