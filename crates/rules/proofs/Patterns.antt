@@ -55,6 +55,10 @@ count-inst σ noPatterns = refl
 count-inst σ (var x s) = ap suc (count-inst σ s)
 count-inst σ (app o k s) = ap suc (count-inst σ s)
 
+-- the item that a slot holds
+abbrev pub itemAt : List ℕ → ℕ → Option Item
+itemAt ps item = itemOf (getD ps item 0) (getD ps (item + 1) 0) (getD ps (item + 2) 0)
+
 -- the first of the slots, and those behind it
 record First (i : Option Item) (r : Option (List Item)) (j : Item) (is : List Item) : Type 0 where
   here : i ≡ some j
@@ -86,7 +90,7 @@ pub record Var (ps : List ℕ) (item n x : ℕ) (s : Patterns) : Type 0 where
 pub row-var : (ps : List ℕ) (item n x : ℕ) (s : Patterns) → PatternsAt ps item (suc n) (var x s) → Var ps item n x s
 unfolding items itemsFrom countP NarrowP
 row-var ps item n x s h =
-    let f = first (itemOf (getD ps item 0) (getD ps (item + 1) 0) (getD ps (item + 2) 0)) (itemsFrom ps (item + 3) (length (items s))) (variable x) (items s) (h .spelled) in
+    let f = first (itemAt ps item) (itemsFrom ps (item + 3) (length (items s))) (variable x) (items s) (h .spelled) in
     let w = slot-var (getD ps item 0) (getD ps (item + 1) 0) (getD ps (item + 2) 0) x (f .here) in
     record {
       room = omega (arith, h .room);
@@ -112,7 +116,7 @@ pub record App (ps : List ℕ) (item n o : ℕ) (k s : Patterns) : Type 0 where
 pub row-app : (ps : List ℕ) (item n o : ℕ) (k s : Patterns) → PatternsAt ps item (suc n) (app o k s) → App ps item n o k s
 unfolding items itemsFrom countP NarrowP
 row-app ps item n o k s h =
-    let f = first (itemOf (getD ps item 0) (getD ps (item + 1) 0) (getD ps (item + 2) 0)) (itemsFrom ps (item + 3) (length (items k ++ items s))) (operator o (countP k)) (items k ++ items s) (h .spelled) in
+    let f = first (itemAt ps item) (itemsFrom ps (item + 3) (length (items k ++ items s))) (operator o (countP k)) (items k ++ items s) (h .spelled) in
     let w = slot-op (getD ps item 0) (getD ps (item + 1) 0) (getD ps (item + 2) 0) o (countP k) (f .here) in
     let c : countP s ≡ n = omega (arith, h .counted) in
     record {
