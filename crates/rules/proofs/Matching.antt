@@ -2,7 +2,7 @@
 -- Assumes nothing.
 use Prim.Native.Nat.{ℕ}
 use mathlib.Core.Bool.{Bool, true, false, false≢true}
-use mathlib.Core.Option.{Option, none, some}
+use mathlib.Core.Option.{Option, none, some, Option·none-ne-some}
 use mathlib.Core.Path.{_≡_, refl, ap, sym, _∙_}
 use mathlib.Core.Logic.{_↔_}
 use native.Mathlib.Omega.{arith}
@@ -143,7 +143,7 @@ given b x t e = rw e
 
 none-agrees : (σ : Substitution) → AgreesB unbound σ
 unfolding AgreesB
-none-agrees σ x t e = let z : _≡_ {A = ℕ} 0 1 = cc in absurd (omega arith)
+none-agrees σ x t e = absurd (Option·none-ne-some _ e)
 
 decided : (l r : Patterns) (s t : Terms) (o : Option Bound) → Finds o unbound (λ σ. Makes l s σ × Makes r t σ)
     → Decides (found o) (Instance l r s t)

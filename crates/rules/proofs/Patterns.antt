@@ -2,7 +2,7 @@
 -- Assumes nothing.
 use Prim.Native.Nat.{ℕ, zero, suc, _+_, _≤_, _<_}
 use mathlib.Core.List.{List, _∷_, _++_, append-assoc}
-use mathlib.Core.Option.{Option, none, some}
+use mathlib.Core.Option.{Option, none, some, Option·none-ne-some}
 use mathlib.Core.Path.{_≡_, refl, ap}
 use native.Mathlib.Nat.{zero-add, suc-add}
 use native.Mathlib.Omega.{arith}
@@ -65,19 +65,19 @@ record First (i : Option Item) (r : Option (List Item)) (j : Item) (is : List It
   behind : r ≡ some is
 
 first : (i : Option Item) (r : Option (List Item)) (j : Item) (is : List Item) → itemFront i r ≡ some (j ∷ is) → First i r j is
-first none r j is e = let z : _≡_ {A = ℕ} 0 1 = cc in absurd (omega arith)
-first (some i) none j is e = let z : _≡_ {A = ℕ} 0 1 = cc in absurd (omega arith)
+first none r j is e = absurd (Option·none-ne-some _ e)
+first (some i) none j is e = absurd (Option·none-ne-some _ e)
 first (some i) (some l) j is e = let p : i ≡ j = cc in let q : l ≡ is = cc in record { here = ap some p; behind = ap some q }
 
 slot-var : (k v n x : ℕ) → itemOf k v n ≡ some (variable x) → (k ≡ 0) × (v ≡ x)
 slot-var zero v n x e = (refl, cc)
 slot-var (suc zero) v n x e = let z : _≡_ {A = ℕ} 0 1 = cc in absurd (omega arith)
-slot-var (suc (suc k)) v n x e = let z : _≡_ {A = ℕ} 0 1 = cc in absurd (omega arith)
+slot-var (suc (suc k)) v n x e = absurd (Option·none-ne-some _ e)
 
 slot-op : (k v n o c : ℕ) → itemOf k v n ≡ some (operator o c) → (k ≡ 1) × (v ≡ o) × (n ≡ c)
 slot-op zero v n o c e = let z : _≡_ {A = ℕ} 0 1 = cc in absurd (omega arith)
 slot-op (suc zero) v n o c e = let p : v ≡ o = cc in let q : n ≡ c = cc in (refl, p, q)
-slot-op (suc (suc k)) v n o c e = let z : _≡_ {A = ℕ} 0 1 = cc in absurd (omega arith)
+slot-op (suc (suc k)) v n o c e = absurd (Option·none-ne-some _ e)
 
 -- a row that begins with a variable
 pub record Var (ps : List ℕ) (item n x : ℕ) (s : Patterns) : Type 0 where
