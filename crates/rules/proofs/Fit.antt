@@ -71,7 +71,8 @@ module _ (pl pr ws : List ℕ) (a b : ℕ) (m : Matched) (first : MatchIs pl 0 1
       subst (λ (o : Bool). MatchOk o ws noneBound (m .bound) l (one t)) ok (first l (one t) hl (term-row ws a e t ht)) (i .σ)
       (record { agrees = none-agrees ws (i .σ); makes = i .left })
 
-  left-fits : m .ok ≡ true → (l : Patterns) (e : ℕ) (t : Term) → PatternsAt pl 0 1 l → TermAt ws a e t → Fits ws noneBound (m .bound) l (one t)
+  left-fits : m .ok ≡ true → (l : Patterns) (e : ℕ) (t : Term) → PatternsAt pl 0 1 l → TermAt ws a e t
+      → Fits ws noneBound (m .bound) l (one t)
   left-fits ok l e t hl ht =
       subst (λ (o : Bool). MatchOk o ws noneBound (m .bound) l (one t)) ok (first l (one t) hl (term-row ws a e t ht))
 
@@ -99,7 +100,8 @@ fit-once pl pr ws a b r s l l′ v w x y =
     one-answer r s _ (x _ _ (l .is) (l′ .is) _ _ _ _ (v .is) (w .is)) (y _ _ (l .is) (l′ .is) _ _ _ _ (v .is) (w .is))
 
 -- and it is the model's
-pub fit-is : (pl pr ws : List ℕ) (a b : ℕ) (r : Bool) → FitIs pl pr ws a b r → (l l′ : Patterns) → PatternsAt pl 0 1 l → PatternsAt pr 0 1 l′
+pub fit-is : (pl pr ws : List ℕ) (a b : ℕ) (r : Bool) → FitIs pl pr ws a b r → (l l′ : Patterns) → PatternsAt pl 0 1 l
+    → PatternsAt pr 0 1 l′
     → (e e′ : ℕ) (t u : Term) → TermAt ws a e t → TermAt ws b e′ u → r ≡ fits l l′ (one t) (one u)
 fit-is pl pr ws a b r h l l′ hl hl′ e e′ t u ht hu =
     one-answer r (fits l l′ (one t) (one u)) _ (h l l′ hl hl′ e e′ t u ht hu) (fits-decides l l′ (one t) (one u))

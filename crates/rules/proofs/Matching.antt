@@ -2,7 +2,7 @@
 -- Assumes nothing.
 use Prim.Native.Nat.{ℕ}
 use mathlib.Core.Bool.{Bool, true, false, false≢true}
-use mathlib.Core.Option.{Option, none, some}
+use mathlib.Core.Option.{Option, none, some, Option·none-ne-some}
 use mathlib.Core.Path.{_≡_, refl, ap, sym, _∙_}
 use mathlib.Core.Logic.{_↔_}
 use native.Mathlib.Omega.{arith}
@@ -32,7 +32,8 @@ finds-by none b C D e h = λ σ ag d. h σ ag (e σ .1 d)
 finds-by (some c) b C D e h = λ σ. ((λ a. let p = h σ .0 a in (p .0, e σ .0 (p .1))), λ p. h σ .1 (p .0, e σ .1 (p .1)))
 
 -- one part behind another
-finds-behind : (b c : Bound) (C D : Substitution → Type 0) → Finds (some c) b C → (r : Option Bound) → Finds r c D → Finds r b (λ σ. C σ × D σ)
+finds-behind : (b c : Bound) (C D : Substitution → Type 0) → Finds (some c) b C → (r : Option Bound) → Finds r c D
+    → Finds r b (λ σ. C σ × D σ)
 finds-behind b c C D h none i = λ σ ag p. i σ (h σ .1 (ag, p .0)) (p .1)
 finds-behind b c C D h (some e) i = λ σ. (
   (λ a. let p = i σ .0 a in let q = h σ .0 (p .0) in (q .0, (q .1, p .1))),
@@ -56,7 +57,8 @@ module _ (b : Bound) (x : ℕ) (t : Term) where
   bind-off : (y : ℕ) → (y ≡ x → ⊥) → bind b x t y ≡ b y
   bind-off y f = rw (ne-eqb y x f, bind)
 
-  bind-agrees : (σ : Substitution) → AgreesB b σ → stripped t ≡ σ x → (y : ℕ) → Dec (y ≡ x) → (u : Term) → bind b x t y ≡ some u → stripped u ≡ σ y
+  bind-agrees : (σ : Substitution) → AgreesB b σ → stripped t ≡ σ x → (y : ℕ) → Dec (y ≡ x) → (u : Term) → bind b x t y ≡ some u
+      → stripped u ≡ σ y
   unfolding AgreesB
   bind-agrees σ ag p y (yes q) u e =
       let z : some t ≡ some u = sym bind-here ∙ rw q at e in
@@ -141,9 +143,10 @@ given b x t e = rw e
 
 none-agrees : (σ : Substitution) → AgreesB unbound σ
 unfolding AgreesB
-none-agrees σ x t e = let z : _≡_ {A = ℕ} 0 1 = cc in absurd (omega arith)
+none-agrees σ x t e = absurd (Option·none-ne-some _ e)
 
-decided : (l r : Patterns) (s t : Terms) (o : Option Bound) → Finds o unbound (λ σ. Makes l s σ × Makes r t σ) → Decides (found o) (Instance l r s t)
+decided : (l r : Patterns) (s t : Terms) (o : Option Bound) → Finds o unbound (λ σ. Makes l s σ × Makes r t σ)
+    → Decides (found o) (Instance l r s t)
 decided l r s t none h = λ i. h (i .σ) (none-agrees (i .σ)) (i .left, i .right)
 decided l r s t (some c) h =
     let p = h (λ x. givenBy (c x)) .0 (given c) in

@@ -2,7 +2,7 @@
 -- Assumes nothing.
 use Prim.Native.Nat.{ℕ, zero, suc, _+_, _≤_, _<_}
 use mathlib.Core.List.{List, _∷_, _++_, append-assoc}
-use mathlib.Core.Option.{Option, none, some}
+use mathlib.Core.Option.{Option, none, some, Option·none-ne-some}
 use mathlib.Core.Path.{_≡_, refl, ap}
 use native.Mathlib.Nat.{zero-add, suc-add}
 use native.Mathlib.Omega.{arith}
@@ -55,25 +55,29 @@ count-inst σ noPatterns = refl
 count-inst σ (var x s) = ap suc (count-inst σ s)
 count-inst σ (app o k s) = ap suc (count-inst σ s)
 
+-- the item that a slot holds
+abbrev pub itemAt : List ℕ → ℕ → Option Item
+itemAt ps item = itemOf (getD ps item 0) (getD ps (item + 1) 0) (getD ps (item + 2) 0)
+
 -- the first of the slots, and those behind it
 record First (i : Option Item) (r : Option (List Item)) (j : Item) (is : List Item) : Type 0 where
   here : i ≡ some j
   behind : r ≡ some is
 
 first : (i : Option Item) (r : Option (List Item)) (j : Item) (is : List Item) → itemFront i r ≡ some (j ∷ is) → First i r j is
-first none r j is e = let z : _≡_ {A = ℕ} 0 1 = cc in absurd (omega arith)
-first (some i) none j is e = let z : _≡_ {A = ℕ} 0 1 = cc in absurd (omega arith)
+first none r j is e = absurd (Option·none-ne-some _ e)
+first (some i) none j is e = absurd (Option·none-ne-some _ e)
 first (some i) (some l) j is e = let p : i ≡ j = cc in let q : l ≡ is = cc in record { here = ap some p; behind = ap some q }
 
 slot-var : (k v n x : ℕ) → itemOf k v n ≡ some (variable x) → (k ≡ 0) × (v ≡ x)
 slot-var zero v n x e = (refl, cc)
 slot-var (suc zero) v n x e = let z : _≡_ {A = ℕ} 0 1 = cc in absurd (omega arith)
-slot-var (suc (suc k)) v n x e = let z : _≡_ {A = ℕ} 0 1 = cc in absurd (omega arith)
+slot-var (suc (suc k)) v n x e = absurd (Option·none-ne-some _ e)
 
 slot-op : (k v n o c : ℕ) → itemOf k v n ≡ some (operator o c) → (k ≡ 1) × (v ≡ o) × (n ≡ c)
 slot-op zero v n o c e = let z : _≡_ {A = ℕ} 0 1 = cc in absurd (omega arith)
 slot-op (suc zero) v n o c e = let p : v ≡ o = cc in let q : n ≡ c = cc in (refl, p, q)
-slot-op (suc (suc k)) v n o c e = let z : _≡_ {A = ℕ} 0 1 = cc in absurd (omega arith)
+slot-op (suc (suc k)) v n o c e = absurd (Option·none-ne-some _ e)
 
 -- a row that begins with a variable
 pub record Var (ps : List ℕ) (item n x : ℕ) (s : Patterns) : Type 0 where
@@ -86,7 +90,7 @@ pub record Var (ps : List ℕ) (item n x : ℕ) (s : Patterns) : Type 0 where
 pub row-var : (ps : List ℕ) (item n x : ℕ) (s : Patterns) → PatternsAt ps item (suc n) (var x s) → Var ps item n x s
 unfolding items itemsFrom countP NarrowP
 row-var ps item n x s h =
-    let f = first (itemOf (getD ps item 0) (getD ps (item + 1) 0) (getD ps (item + 2) 0)) (itemsFrom ps (item + 3) (length (items s))) (variable x) (items s) (h .spelled) in
+    let f = first (itemAt ps item) (itemsFrom ps (item + 3) (length (items s))) (variable x) (items s) (h .spelled) in
     let w = slot-var (getD ps item 0) (getD ps (item + 1) 0) (getD ps (item + 2) 0) x (f .here) in
     record {
       room = omega (arith, h .room);
@@ -112,7 +116,7 @@ pub record App (ps : List ℕ) (item n o : ℕ) (k s : Patterns) : Type 0 where
 pub row-app : (ps : List ℕ) (item n o : ℕ) (k s : Patterns) → PatternsAt ps item (suc n) (app o k s) → App ps item n o k s
 unfolding items itemsFrom countP NarrowP
 row-app ps item n o k s h =
-    let f = first (itemOf (getD ps item 0) (getD ps (item + 1) 0) (getD ps (item + 2) 0)) (itemsFrom ps (item + 3) (length (items k ++ items s))) (operator o (countP k)) (items k ++ items s) (h .spelled) in
+    let f = first (itemAt ps item) (itemsFrom ps (item + 3) (length (items k ++ items s))) (operator o (countP k)) (items k ++ items s) (h .spelled) in
     let w = slot-op (getD ps item 0) (getD ps (item + 1) 0) (getD ps (item + 2) 0) o (countP k) (f .here) in
     let c : countP s ≡ n = omega (arith, h .counted) in
     record {

@@ -3,7 +3,7 @@
 use Prim.Native.Nat.{ℕ, zero, suc, _≤_}
 use mathlib.Core.List.{List, [], _∷_, _++_, append-assoc, append-nil}
 use mathlib.Core.Bool.{Bool, true, false}
-use mathlib.Core.Option.{Option, none, some}
+use mathlib.Core.Option.{Option, none, some, Option·none-ne-some}
 use mathlib.Core.Path.{_≡_, refl, ap, sym, _∙_}
 use native.Mathlib.Omega.{arith}
 use borrow.Author.Tests.{le-leb, leb-true}
@@ -53,7 +53,7 @@ pub record CutIs (c : ℕ) (f : Terms) (p : Cut) : Type 0 where
 longer-is : (o : ℕ) (m : Mark) (k s : Terms) (c : ℕ) (p : Cut) (r : Option Cut)
     → ((w : Cut) → r ≡ some w → CutIs c s w) → longer o m k r ≡ some p → CutIs (suc c) (tree o m k s) p
 unfolding count join
-longer-is o m k s c p none h e = let z : _≡_ {A = ℕ} 0 1 = cc in absurd (omega arith)
+longer-is o m k s c p none h e = absurd (Option·none-ne-some _ e)
 longer-is o m k s c p (some w) h e =
     let l : record { front = tree o m k (w .front); back = w .back } ≡ p = cc in
     let i = h w refl in
@@ -64,7 +64,7 @@ unfolding cut count join
 cut-is zero f p e =
     let q : record { front = noTerms; back = f } ≡ p = cc in
     rw (← q) (record { counted = refl; joined = refl })
-cut-is (suc c) noTerms p e = let z : _≡_ {A = ℕ} 0 1 = cc in absurd (omega arith)
+cut-is (suc c) noTerms p e = absurd (Option·none-ne-some _ e)
 cut-is (suc c) (tree o m k s) p e = longer-is o m k s c p (cut c s) (cut-is c s) e
 
 -- a row of c terms or more has a cut
@@ -85,17 +85,17 @@ has-cut (suc c) (tree o m k s) l =
 
 pub mark-of : (m r : ℕ) (k : Mark) → markOf m r ≡ some k → (markWord k ≡ m) × (ruleWord k ≡ r)
 mark-of zero zero k e = let p : unmarked ≡ k = cc in rw (← p) (refl, refl)
-mark-of zero (suc r) k e = let z : _≡_ {A = ℕ} 0 1 = cc in absurd (omega arith)
+mark-of zero (suc r) k e = absurd (Option·none-ne-some _ e)
 mark-of (suc zero) r k e = let p : forward r ≡ k = cc in rw (← p) (refl, refl)
 mark-of (suc (suc zero)) r k e = let p : backward r ≡ k = cc in rw (← p) (refl, refl)
-mark-of (suc (suc (suc m))) r k e = let z : _≡_ {A = ℕ} 0 1 = cc in absurd (omega arith)
+mark-of (suc (suc (suc m))) r k e = absurd (Option·none-ne-some _ e)
 
 -- what a node that was read with its children says: the row read behind it, cut
 module _ (o c m r : ℕ) (ws : List ℕ) (f : Terms) where
   adopt-is : (g : Terms) → Reads ws g → (k : Mark) → markOf m r ≡ some k → leb c childLimit ≡ true → (p : Option Cut) → cut c g ≡ p
       → adopt o k p ≡ some f → Reads (o ∷ c ∷ m ∷ r ∷ ws) f
   unfolding words Narrow
-  adopt-is g h k i l none q e = let z : _≡_ {A = ℕ} 0 1 = cc in absurd (omega arith)
+  adopt-is g h k i l none q e = absurd (Option·none-ne-some _ e)
   adopt-is g h k i l (some p) q e =
       let x : tree o k (p .front) (p .back) ≡ f = cc in
       let d = cut-is c g p q in
@@ -108,24 +108,21 @@ module _ (o c m r : ℕ) (ws : List ℕ) (f : Terms) where
 
   mark-is : (g : Terms) → Reads ws g → (k : Option Mark) → markOf m r ≡ k → (b : Bool) → leb c childLimit ≡ b
       → adoptIf b o k (cut c g) ≡ some f → Reads (o ∷ c ∷ m ∷ r ∷ ws) f
-  mark-is g h k i false l e = let z : _≡_ {A = ℕ} 0 1 = cc in absurd (omega arith)
-  mark-is g h none i true l e = let z : _≡_ {A = ℕ} 0 1 = cc in absurd (omega arith)
+  mark-is g h k i false l e = absurd (Option·none-ne-some _ e)
+  mark-is g h none i true l e = absurd (Option·none-ne-some _ e)
   mark-is g h (some k) i true l e = adopt-is g h k i l (cut c g) refl e
 
   over-is : (q : Option Terms) → ((g : Terms) → q ≡ some g → Reads ws g) → over o c (markOf m r) q ≡ some f → Reads (o ∷ c ∷ m ∷ r ∷ ws) f
   unfolding over
-  over-is none h e = let z : _≡_ {A = ℕ} 0 1 = cc in absurd (omega arith)
+  over-is none h e = absurd (Option·none-ne-some _ e)
   over-is (some g) h e = mark-is g (h g refl) (markOf m r) refl (leb c childLimit) refl e
-
-no-row : (f : Terms) → none ≡ some f → ⊥
-no-row f e = let z : _≡_ {A = ℕ} 0 1 = cc in omega arith
 
 pub read-words : (ws : List ℕ) (f : Terms) → read ws ≡ some f → Reads ws f
 unfolding read words Narrow
 read-words [] f e = let p : noTerms ≡ f = cc in rw (← p) (record { narrow = tt; spelled = refl })
-read-words (o ∷ []) f e = absurd (no-row f e)
-read-words (o ∷ c ∷ []) f e = absurd (no-row f e)
-read-words (o ∷ c ∷ m ∷ []) f e = absurd (no-row f e)
+read-words (o ∷ []) f e = absurd (Option·none-ne-some f e)
+read-words (o ∷ c ∷ []) f e = absurd (Option·none-ne-some f e)
+read-words (o ∷ c ∷ m ∷ []) f e = absurd (Option·none-ne-some f e)
 read-words (o ∷ c ∷ m ∷ r ∷ ws) f e = over-is o c m r ws f (read ws) (read-words ws) e
 
 -- so words have one reading

@@ -89,7 +89,8 @@ module _ (ws : List ℕ) (a b i j : ℕ) where
       let x = h e e′ t u ht hu in
       false≢true (sym d ∙ agree n (x .f) (x .g) (x .isF) (x .isG) (x .same .1 p))
 
-  next : (n : ℕ) → Heads (nodeOf ws i) (getD ws j 0) (getD ws (j + 1) 0) → (t u : Term) (f g : Terms) → RowAt ws i (suc n) f → RowAt ws j (suc n) g
+  next : (n : ℕ) → Heads (nodeOf ws i) (getD ws j 0) (getD ws (j + 1) 0) → (t u : Term) (f g : Terms) → RowAt ws i (suc n) f
+      → RowAt ws j (suc n) g
       → (strip f ≡ strip g) ↔ (stripped t ≡ stripped u) → Left ws (i + 4) (j + 4) (getD ws (i + 1) 0 + n) t u
   unfolding strip count
   next n q t u noTerms g hf hg w = absurd (omega (arith, hf .counted))

@@ -82,7 +82,8 @@ marked m r none e i = let z : _≡_ {A = ℕ} 0 1 = cc in absurd (omega arith)
 marked m r (some k) e i = let w = mark-of m r k e in record { mark = k; first = w .0; second = w .1 }
 
 -- a node in front of c + n terms, of which the first c are its children
-node-front : (o c m r n at e : ℕ) (ws : List ℕ) → c ≤ childLimit → Marked m r → (f : Front ws (c + n) (at + 4) e) (p : Cut) → CutIs c (f .terms) p
+node-front : (o c m r n at e : ℕ) (ws : List ℕ) → c ≤ childLimit → Marked m r → (f : Front ws (c + n) (at + 4) e) (p : Cut)
+    → CutIs c (f .terms) p
     → Front (o ∷ c ∷ m ∷ r ∷ ws) (suc n) at e
 unfolding words Narrow count
 node-front o c m r n at e ws l k f p d =

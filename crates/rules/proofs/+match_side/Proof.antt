@@ -45,7 +45,8 @@ match-side-returns-2 : (t : ℕ) → match-side-lts.Need-returns-2 (claims t) (m
 match-side-returns-2 t c =
     let d = c .before .before .before in
     let a = d .before .before .before .before .args in
-    step-off (a .side .now) (a .item) (a .words .now) (a .at) (a .b) (d .item-step .result) (d .item-step .ensures) (a .pending) (d .before .if1 .left) (not-true _ (c .if2 .taken))
+    step-off (a .side .now) (a .item) (a .words .now) (a .at) (a .b) (d .item-step .result) (d .item-step .ensures) (a .pending)
+    (d .before .if1 .left) (not-true _ (c .if2 .taken))
 
 -- there is room for the item
 room : (t : ℕ) (c : match-side-lts.Else1 (claims t) (match-side-at t) match-side.Post)
@@ -70,7 +71,8 @@ next t c =
     let d = c .before .before .before in
     let s = d .before .before .before .before in
     let a = s .args in
-    next-rows (a .side .now) (a .item) (a .words .now) (a .at) (a .b) (d .item-step .result) (d .item-step .ensures) (a .pending) (d .before .if1 .left) (not-false _ (c .if2 .left)) (s .pre .1 .1)
+    next-rows (a .side .now) (a .item) (a .words .now) (a .at) (a .b) (d .item-step .result) (d .item-step .ensures) (a .pending)
+    (d .before .if1 .left) (not-false _ (c .if2 .left)) (s .pre .1 .1)
 
 match-side-add-match-side-2 : (t : ℕ) → match-side-lts.Need-add-match-side-2 (claims t) (match-side-at t) match-side.Post
 match-side-add-match-side-2 t c =
@@ -87,10 +89,12 @@ match-side-returns-3 : (t : ℕ) → match-side-lts.Need-returns-3 (claims t) (m
 match-side-returns-3 t c =
     let d = c .before .before .before .before .before in
     let a = d .before .before .before .before .args in
-    next-match (a .side .now) (a .item) (a .words .now) (a .at) (a .b) (d .item-step .result) (d .item-step .ensures) (a .pending) (d .before .if1 .left) (not-false _ (c .before .before .if2 .left)) (c .match-side .result) (c .match-side .ensures)
+    next-match (a .side .now) (a .item) (a .words .now) (a .at) (a .b) (d .item-step .result) (d .item-step .ensures) (a .pending)
+    (d .before .if1 .left) (not-false _ (c .before .before .if2 .left)) (c .match-side .result) (c .match-side .ensures)
 
 pub +match-side-spec : {M : Type 1} → statement M
 +match-side-spec =
     close μ-match-side
     (λ t. match-side-lts.spec (claims t) (match-side-at t) match-side.Post
-    (match-side-returns t) (match-side-item-step-requires t) (match-side-returns-2 t) (match-side-add-match-side t) (match-side-sub-match-side t) (match-side-add-match-side-2 t) (match-side-match-side-requires t) (match-side-returns-3 t))
+    (match-side-returns t) (match-side-item-step-requires t) (match-side-returns-2 t) (match-side-add-match-side t)
+    (match-side-sub-match-side t) (match-side-add-match-side-2 t) (match-side-match-side-requires t) (match-side-returns-3 t))

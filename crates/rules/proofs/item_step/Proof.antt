@@ -28,7 +28,8 @@ slot : (c : tie.After-slot-at) (f : Slot → ℕ) → let a = c .before .before 
     f (slotOf (a .side .now) (a .item)) ≡ f (c .slot-at .result)
 slot c f = sym (ap f (c .slot-at .ensures))
 
-kind : (c : tie.After-slot-at) → getD (c .before .before .before .args .side .now) (c .before .before .before .args .item) 0 ≡ c .slot-at .result .kind
+kind : (c : tie.After-slot-at)
+    → getD (c .before .before .before .args .side .now) (c .before .before .before .args .item) 0 ≡ c .slot-at .result .kind
 kind c = slot c (λ (x : Slot). x .kind)
 
 bind-requires : tie.Need-bind-requires
@@ -36,8 +37,9 @@ bind-requires c κs =
     let i = c .before .before in
     let s = i .before .before .before in
     let a = s .args in
-    let r = s .pre .1 in (
-      omega (arith, slot i (λ (x : Slot). x .number), c .wide .ensures, row-small (a .side .now) (a .item) (r .left) (r .rows .patterns) (r .rows .isP) (kind i ∙ c .before .match .keys1)),
+    let r = s .pre .1 in
+    let small = row-small (a .side .now) (a .item) (r .left) (r .rows .patterns) (r .rows .isP) (kind i ∙ c .before .match .keys1) in (
+      omega (arith, slot i (λ (x : Slot). x .number), c .wide .ensures, small),
       (s .pre .0, row-well (a .words .now) (a .at) (r .left) (r .rows .terms) (r .rows .isT)),
     )
 

@@ -52,7 +52,8 @@ returns : tie.Need-returns Inv-loop μ-loop
 returns c =
     let l = c .before .before .before .before .before .loop in
     let a = c .before .before .before .before .before .before .before .args in
-    same-off (a .words .now) (a .a) (a .b) (l .i) (l .j) (l .pending) (omega arith) (told (c .before) _ (not-true _ (c .if1 .taken))) (l .inv)
+    same-off (a .words .now) (a .a) (a .b) (l .i) (l .j) (l .pending) (omega arith)
+    (told (c .before) _ (not-true _ (c .if1 .taken))) (l .inv)
 
 sub-pending : tie.Need-sub-pending Inv-loop μ-loop
 sub-pending c = search needs
@@ -67,7 +68,8 @@ loop-again c =
     let a = d .before .before .before .before .before .before .args in
     let k : getD (a .words .now) (l .i + 1) 0 ≡ c .wide .result = ap (λ (x : Node). x .count) (sym (d .before .before .node-at .ensures)) ∙ sym (c .wide .ensures) in
     subst (λ (n : ℕ). SameHere (a .words .now) (a .a) (a .b) (l .i + 4) (l .j + 4) (l .pending - 1 + n)) k
-    (same-next (a .words .now) (a .a) (a .b) (l .i) (l .j) (l .pending) (omega arith) (told d _ (not-false _ (c .before .if1 .left))) (l .inv))
+    (same-next (a .words .now) (a .a) (a .b) (l .i) (l .j) (l .pending) (omega arith)
+    (told d _ (not-false _ (c .before .if1 .left))) (l .inv))
 
 add-pending : tie.Need-add-pending Inv-loop μ-loop
 add-pending c =

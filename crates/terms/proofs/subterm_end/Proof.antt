@@ -47,7 +47,8 @@ node-ok-requires c κs = search needs
 -- the turn that begins with a node, by what was found of it
 turned : (c : tie.After-node-ok Inv-loop μ-loop) (b : Bool) → c .node-ok .result ≡ b
     → let l = c .before .before .before .before .loop in let a = c .before .before .before .before .before .before .before .args in
-    endIf b (scan (drop (l .pos + 4) (a .words .now)) (l .pending - 1 + c .before .node-at .result .count) (l .pos + 4)) ≡ scan (drop (a .at) (a .words .now)) 1 (a .at)
+    endIf b (scan (drop (l .pos + 4) (a .words .now)) (l .pending - 1 + c .before .node-at .result .count) (l .pos + 4))
+    ≡ scan (drop (a .at) (a .words .now)) 1 (a .at)
 turned c b e =
     let l = c .before .before .before .before .loop in
     let a = c .before .before .before .before .before .before .before .args in

@@ -35,7 +35,8 @@ returns : tie.Need-returns Inv-loop μ-loop
 returns c =
     let l = c .before .before .before .before .loop in
     let ws = c .before .before .before .before .before .before .args .words .now in
-    whole-broken ws (l .pos) (l .n) (subst (EndIs ws (l .pos)) (c .enum-told .given .1) (c .before .before .subterm-end .ensures)) (omega arith) (l .inv .1)
+    whole-broken ws (l .pos) (l .n) (subst (EndIs ws (l .pos)) (c .enum-told .given .1) (c .before .before .subterm-end .ensures))
+    (omega arith) (l .inv .1)
 
 -- the term that was found
 found : (c : tie.After-found Inv-loop μ-loop)
