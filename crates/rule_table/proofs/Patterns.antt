@@ -1,9 +1,9 @@
 -- Patterns as items: the flat walk by pending counts accepts exactly the items that `readP` reads, what is read is spelled
 -- by its items, and the variables of a pattern are those of its items.
 -- Assumes nothing.
-use Prim.Native.Nat.{ℕ, zero, suc, _+_}
+use Prim.Native.Nat.{ℕ, zero, suc, _+_, _≤_, _<_}
 use mathlib.Core.Bool.{Bool, true, false, _&&_, _||_}
-use mathlib.Core.List.{List, [], _∷_, _++_, append-assoc}
+use mathlib.Core.List.{List, [], _∷_, _++_, append-assoc, append-nil}
 use mathlib.Core.Option.{Option, none, some}
 use mathlib.Core.Path.{_≡_, refl, ap, sym, _∙_}
 use native.Mathlib.Nat.{zero-add, suc-add}
@@ -104,10 +104,10 @@ scan-read (i ∷ is) zero = none-over i (readP is)
 scan-read (i ∷ is) (suc n) = rw (scan-read is (arity i + n)) (row-over i (readP is) n)
 
 -- what a cut leaves: the first c patterns and those behind them
-record CutIs (c : ℕ) (q : Patterns) (p : CutP) : Type 0 where
-  counted : countP (p .front) ≡ c
-  narrow : NarrowP q → NarrowP (p .front) × NarrowP (p .back)
-  spelled : items q ≡ items (p .front) ++ items (p .back)
+pub record CutIs (c : ℕ) (q : Patterns) (p : CutP) : Type 0 where
+  pub counted : countP (p .front) ≡ c
+  pub narrow : NarrowP q → NarrowP (p .front) × NarrowP (p .back)
+  pub spelled : items q ≡ items (p .front) ++ items (p .back)
 
 cut-var : (x : ℕ) (s : Patterns) (c : ℕ) (p : CutP) (r : Option CutP)
     → ((w : CutP) → r ≡ some w → CutIs c s w) → longerVar x r ≡ some p → CutIs (suc c) (var x s) p
@@ -135,7 +135,7 @@ cut-app o k s c p (some w) h e =
       spelled = rw (i .spelled, append-assoc);
     })
 
-cut-is : (c : ℕ) (q : Patterns) (p : CutP) → cutP c q ≡ some p → CutIs c q p
+pub cut-is : (c : ℕ) (q : Patterns) (p : CutP) → cutP c q ≡ some p → CutIs c q p
 unfolding cutP countP items NarrowP
 cut-is zero q p e =
     let l : record { front = noPatterns; back = q } ≡ p = cc in
@@ -153,7 +153,8 @@ reads-var x is q f h true l e =
     let p : var x q ≡ f = cc in
     rw (← p) (record { narrow = (ltb-true x variableLimit l, h .narrow); spelled = rw (h .spelled) })
 
-reads-app : (o c : ℕ) (is : List Item) (q f : Patterns) → ReadsP is q → (b : Bool) → leb c childLimit ≡ b → (p : Option CutP) → cutP c q ≡ p
+reads-app : (o c : ℕ) (is : List Item) (q f : Patterns) → ReadsP is q → (b : Bool) → leb c childLimit ≡ b → (p : Option CutP)
+    → cutP c q ≡ p
     → adoptP b o p ≡ some f → ReadsP (operator o c ∷ is) f
 unfolding items NarrowP
 reads-app o c is q f h false l p d e = let z : _≡_ {A = ℕ} 0 1 = cc in absurd (omega arith)
@@ -239,3 +240,56 @@ unfolding bound all items
 bound-all l noPatterns = refl
 bound-all l (var y s) = rw (bound-all l s)
 bound-all l (app o k s) = rw (bound-all l k, bound-all l s, all-append)
+
+-- a row of patterns in front of another, and in front of what was read
+unfoldable pub joinP : Patterns → Patterns → Patterns
+joinP noPatterns r = r
+joinP (var x s) r = var x (joinP s r)
+joinP (app o k s) r = app o k (joinP s r)
+
+abbrev pub joinTo : Patterns → Option Patterns → Option Patterns
+joinTo q none = none
+joinTo q (some r) = some (joinP q r)
+
+-- it is cut where it was joined
+pub cut-join : (q r : Patterns) → cutP (countP q) (joinP q r) ≡ some (record { front = q; back = r })
+unfolding cutP countP joinP
+cut-join noPatterns r = refl
+cut-join (var x s) r = rw (cut-join s r)
+cut-join (app o k s) r = rw (cut-join s r)
+
+over-var : (x : ℕ) (s : Patterns) → x < variableLimit → (r : Option Patterns)
+    → overP (variable x) (joinTo s r) ≡ joinTo (var x s) r
+unfolding overP joinP
+over-var x s h none = refl
+over-var x s h (some r) = rw (lt-ltb x variableLimit h)
+
+over-app : (o : ℕ) (k s : Patterns) → countP k ≤ childLimit → (r : Option Patterns)
+    → overP (operator o (countP k)) (joinTo k (joinTo s r)) ≡ joinTo (app o k s) r
+unfolding overP joinP
+over-app o k s h none = refl
+over-app o k s h (some r) = rw (le-leb (countP k) childLimit h, cut-join k (joinP s r))
+
+join-first : (r : Option Patterns) → r ≡ joinTo noPatterns r
+unfolding joinP
+join-first none = refl
+join-first (some r) = refl
+
+join-last : (q : Patterns) → joinP q noPatterns ≡ q
+unfolding joinP
+join-last noPatterns = refl
+join-last (var x s) = rw (join-last s)
+join-last (app o k s) = rw (join-last s)
+
+-- a row's items in front of others: the row, and what these say
+pub read-front : (q : Patterns) → NarrowP q → (is : List Item) → readP (items q ++ is) ≡ joinTo q (readP is)
+unfolding readP items NarrowP joinP
+read-front noPatterns h is = join-first (readP is)
+read-front (var x s) h is = rw (read-front s (h .1) is) (over-var x s (h .0) (readP is))
+read-front (app o k s) h is =
+    let kids = ap readP (append-assoc (items k) (items s) is) ∙ read-front k (h .1) (items s ++ is) in
+    ap (overP (operator o (countP k))) (kids ∙ ap (joinTo k) (read-front s (h .2) is)) ∙ over-app o k s (h .0) (readP is)
+
+pub items-read : (q : Patterns) → NarrowP q → readP (items q) ≡ some q
+unfolding readP
+items-read q h = rw (← append-nil (items q), read-front q h [], join-last q)
