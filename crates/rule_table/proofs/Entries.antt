@@ -18,6 +18,7 @@ use Rattle.model.specs.Tables.{onlyIf, sideAt, ruleWords, ruleEntry, andAdd, en
 use Rattle.rule_table.specs.declared.Listed.{Listed}
 use Rattle.rule_table.specs.declared.Listed.the-variants.{At, Nowhere}
 use Rattle.rule_table.specs.Entries.{rulesIn, Accepted, placeIf, placeOf}
+use Rattle.rule_table.proofs.Patterns.{none-some}
 use Rattle.rule_table.proofs.Sides.{SideIs, side-is}
 use Rattle.rule_table.proofs.Parts.{ruleFrom}
 
@@ -53,16 +54,15 @@ module _ (ws : List ℕ) (i : ℕ) (r : Rule) where
       → sideAt ws (i * ruleWords + 3) (getD ws (i * ruleWords + 1) 0) ≡ l
       → (m : Option Patterns) → sideAt ws (i * ruleWords + 195) (getD ws (i * ruleWords + 2) 0) ≡ m
       → ruleOf (getD ws (i * ruleWords) 0) l m ≡ some r → EntryIs ws i r
-  of-sides h none p m q e = let z : _≡_ {A = ℕ} 0 1 = cc in absurd (omega arith)
-  of-sides h (some l) p none q e = let z : _≡_ {A = ℕ} 0 1 = cc in absurd (omega arith)
+  of-sides h none p m q e = absurd (none-some e)
+  of-sides h (some l) p none q e = absurd (none-some e)
   of-sides h (some l) p (some m) q e =
       let x : record { number = getD ws (i * ruleWords) 0; left = l; right = m } ≡ r = cc in
       rw (← x) (record { room = h; number = refl; left = side-is _ _ _ l p; right = side-is _ _ _ m q })
 
   of-room : (b : Bool) → leb (i * ruleWords + ruleWords) (length ws) ≡ b
-      → onlyIf b (ruleFrom ws (i * ruleWords)) ≡ some r
-      → EntryIs ws i r
-  of-room false h e = let z : _≡_ {A = ℕ} 0 1 = cc in absurd (omega arith)
+      → onlyIf b (ruleFrom ws (i * ruleWords)) ≡ some r → EntryIs ws i r
+  of-room false h e = absurd (none-some e)
   of-room true h e = of-sides (leb-true _ _ h) _ refl _ refl e
 
   pub entry-is : ruleEntry ws i ≡ some r → EntryIs ws i r
@@ -148,13 +148,8 @@ abbrev pub ruleAt : List ℕ → Listed → Option Rule
 ruleAt ws (At i) = ruleEntry ws i
 ruleAt ws Nowhere = none
 
-abbrev pub isAt : Listed → Bool
-isAt (At i) = true
-isAt Nowhere = false
-
 listed-newest : (ws : List ℕ) (n : ℕ) (r : Rule) (o : Option Rule) (p : Listed) (b : Bool) → ruleEntry ws n ≡ some r
-    → o ≡ ruleAt ws p
-    → orElse b r o ≡ ruleAt ws (placeIf b n p)
+    → o ≡ ruleAt ws p → orElse b r o ≡ ruleAt ws (placeIf b n p)
 listed-newest ws n r o p true e q = sym e
 listed-newest ws n r o p false e q = q
 
@@ -214,11 +209,16 @@ pub rule-nowhere : (ws : List ℕ) (n : ℕ) (rs : List Rule) (x : ℕ) → rule
     → listed rs x ≡ none
 rule-nowhere ws n rs x e p = listed-place ws x n rs e ∙ ap (ruleAt ws) p
 
--- "each listed once": an accepted entry with the number is the one that is found
-listed-again : (ws : List ℕ) (n : ℕ) (older : List Rule) (x i : ℕ) → rulesIn ws n ≡ good older → placeOf ws n x ≡ At i
-    → isListed (listed older x) ≡ true
-listed-again ws n older x i e p = ap isListed (rule-found ws n older x i e p .listed)
+-- "each listed once": where an older entry has the number, the newest has another
+newest-apart : (ws : List ℕ) (n : ℕ) (rs : List Rule) → Newest ws n rs → (x i : ℕ) → placeOf ws n x ≡ At i
+    → x ≡ getD ws (n * ruleWords) 0 → ⊥
+newest-apart ws n rs w x i p q =
+    let again = ap isListed (rule-found ws n (w .older) x i (w .before) p .listed) in
+    let number = entry-is ws n (w .add .rule) (w .add .entry) .number in
+    let fresh = ap (λ (y : ℕ). isListed (listed (w .older) y)) (q ∙ sym number) ∙ w .add .fresh in
+    let z : _≡_ {A = ℕ} 0 1 = cc in omega arith
 
+-- so an accepted entry with the number is the one that is found
 pub place-only : (ws : List ℕ) (x n : ℕ) (rs : List Rule) → rulesIn ws n ≡ good rs → (i : ℕ) → i < n
     → getD ws (i * ruleWords) 0 ≡ x → placeOf ws n x ≡ At i
 unfolding placeOf
@@ -229,10 +229,5 @@ place-only ws x (suc n) rs e i h d =
       | no p ↦
           let w = newest ws n rs e in
           let older = place-only ws x n (w .older) (w .before) i (omega arith) d in
-          let number = entry-is ws n (w .add .rule) (w .add .entry) .number in
-          let apart : x ≡ getD ws (n * ruleWords) 0 → ⊥ = λ q.
-          let again = listed-again ws n (w .older) x i (w .before) older in
-          let fresh = ap (λ (y : ℕ). isListed (listed (w .older) y)) (q ∙ sym number) ∙ w .add .fresh in
-          let z : _≡_ {A = ℕ} 0 1 = cc in omega arith in
-          rw (ne-eqb x (getD ws (n * ruleWords) 0) apart) older
+          rw (ne-eqb x (getD ws (n * ruleWords) 0) (newest-apart ws n rs w x i older)) older
     ]

@@ -10,7 +10,7 @@ use borrow.Author.Tests.{eqb-true, eq-eqb}
 use Rattle.model.specs.Pattern.{Item, Patterns, countP, items, CutP, cutP, readP}
 use Rattle.model.specs.Rule.{Rule, onePattern, side, ruleOf}
 use Rattle.model.specs.Frame.{ruleBy, ruleCut, ruleItems}
-use Rattle.rule_table.proofs.Patterns.{scan, isRow, scan-read, cut-is, read-items, joinP, joinTo, cut-join, read-front, items-read}
+use Rattle.rule_table.proofs.Patterns.{none-some, scan, isRow, scan-read, cut-is, read-items, joinP, joinTo, cut-join, read-front, items-read}
 
 -- the first pattern of a row, cut off
 module _ (n : ℕ) (l : Patterns) (e : countP l ≡ 1) where
@@ -48,7 +48,7 @@ pub record Split (is : List Item) : Type 0 where
 
 module _ (n : ℕ) (is : List Item) (r : Rule) where
   cut-split : (q : Patterns) → readP is ≡ some q → (p : Option CutP) → cutP 1 q ≡ p → ruleBy n p ≡ some r → Split is
-  cut-split q e none c h = let z : _≡_ {A = ℕ} 0 1 = cc in absurd (omega arith)
+  cut-split q e none c h = absurd (none-some h)
   cut-split q e (some p) c h =
       let w = read-items is q e in
       let d = cut-is 1 q p c in
@@ -61,7 +61,7 @@ module _ (n : ℕ) (is : List Item) (r : Rule) where
       }
 
   row-split : (o : Option Patterns) → readP is ≡ o → ruleCut n o ≡ some r → Split is
-  row-split none e h = let z : _≡_ {A = ℕ} 0 1 = cc in absurd (omega arith)
+  row-split none e h = absurd (none-some h)
   row-split (some q) e h = cut-split q e (cutP 1 q) refl h
 
   pub frame-split : ruleItems n (some is) ≡ some r → Split is

@@ -13,6 +13,10 @@ use lib.Dec.{leb, ltb, eqb, eqb·zero-suc, eqb·suc-zero, eqb·suc-suc}
 use Rattle.model.specs.Limits.{childLimit, variableLimit}
 use Rattle.model.specs.Pattern.{Item, variable, operator, Patterns, noPatterns, var, app, countP, items, NarrowP, ReadsP, CutP, longerVar, longerApp, cutP, adoptP, frontVar, overP, readP, stands, bound}
 
+-- nothing is not something
+pub none-some : {A : Type 0} {a : A} → none ≡ some a → ⊥
+none-some e = let z : _≡_ {A = ℕ} 0 1 = cc in omega arith
+
 -- an item's field is in its set; and how many patterns the item wants behind it
 abbrev pub itemOk : Item → Bool
 itemOk (variable x) = ltb x variableLimit
@@ -112,7 +116,7 @@ pub record CutIs (c : ℕ) (q : Patterns) (p : CutP) : Type 0 where
 cut-var : (x : ℕ) (s : Patterns) (c : ℕ) (p : CutP) (r : Option CutP)
     → ((w : CutP) → r ≡ some w → CutIs c s w) → longerVar x r ≡ some p → CutIs (suc c) (var x s) p
 unfolding countP items NarrowP
-cut-var x s c p none h e = let z : _≡_ {A = ℕ} 0 1 = cc in absurd (omega arith)
+cut-var x s c p none h e = absurd (none-some e)
 cut-var x s c p (some w) h e =
     let l : record { front = var x (w .front); back = w .back } ≡ p = cc in
     let i = h w refl in
@@ -125,7 +129,7 @@ cut-var x s c p (some w) h e =
 cut-app : (o : ℕ) (k s : Patterns) (c : ℕ) (p : CutP) (r : Option CutP)
     → ((w : CutP) → r ≡ some w → CutIs c s w) → longerApp o k r ≡ some p → CutIs (suc c) (app o k s) p
 unfolding countP items NarrowP
-cut-app o k s c p none h e = let z : _≡_ {A = ℕ} 0 1 = cc in absurd (omega arith)
+cut-app o k s c p none h e = absurd (none-some e)
 cut-app o k s c p (some w) h e =
     let l : record { front = app o k (w .front); back = w .back } ≡ p = cc in
     let i = h w refl in
@@ -140,7 +144,7 @@ unfolding cutP countP items NarrowP
 cut-is zero q p e =
     let l : record { front = noPatterns; back = q } ≡ p = cc in
     rw (← l) (record { counted = refl; narrow = λ n. (tt, n); spelled = refl })
-cut-is (suc c) noPatterns p e = let z : _≡_ {A = ℕ} 0 1 = cc in absurd (omega arith)
+cut-is (suc c) noPatterns p e = absurd (none-some e)
 cut-is (suc c) (var x s) p e = cut-var x s c p (cutP c s) (cut-is c s) e
 cut-is (suc c) (app o k s) p e = cut-app o k s c p (cutP c s) (cut-is c s) e
 
@@ -148,7 +152,7 @@ cut-is (suc c) (app o k s) p e = cut-app o k s c p (cutP c s) (cut-is c s) e
 reads-var : (x : ℕ) (is : List Item) (q f : Patterns) → ReadsP is q → (b : Bool) → ltb x variableLimit ≡ b
     → frontVar b x q ≡ some f → ReadsP (variable x ∷ is) f
 unfolding items NarrowP
-reads-var x is q f h false l e = let z : _≡_ {A = ℕ} 0 1 = cc in absurd (omega arith)
+reads-var x is q f h false l e = absurd (none-some e)
 reads-var x is q f h true l e =
     let p : var x q ≡ f = cc in
     rw (← p) (record { narrow = (ltb-true x variableLimit l, h .narrow); spelled = rw (h .spelled) })
@@ -157,8 +161,8 @@ reads-app : (o c : ℕ) (is : List Item) (q f : Patterns) → ReadsP is q → (b
     → cutP c q ≡ p
     → adoptP b o p ≡ some f → ReadsP (operator o c ∷ is) f
 unfolding items NarrowP
-reads-app o c is q f h false l p d e = let z : _≡_ {A = ℕ} 0 1 = cc in absurd (omega arith)
-reads-app o c is q f h true l none d e = let z : _≡_ {A = ℕ} 0 1 = cc in absurd (omega arith)
+reads-app o c is q f h false l p d e = absurd (none-some e)
+reads-app o c is q f h true l none d e = absurd (none-some e)
 reads-app o c is q f h true l (some p) d e =
     let w = cut-is c q p d in
     let n = w .narrow (h .narrow) in
@@ -171,9 +175,9 @@ reads-app o c is q f h true l (some p) d e =
 reads-over : (i : Item) (is : List Item) (f : Patterns) (r : Option Patterns) → ((q : Patterns) → r ≡ some q → ReadsP is q)
     → overP i r ≡ some f → ReadsP (i ∷ is) f
 unfolding overP
-reads-over (variable x) is f none h e = let z : _≡_ {A = ℕ} 0 1 = cc in absurd (omega arith)
+reads-over (variable x) is f none h e = absurd (none-some e)
 reads-over (variable x) is f (some q) h e = reads-var x is q f (h q refl) (ltb x variableLimit) refl e
-reads-over (operator o c) is f none h e = let z : _≡_ {A = ℕ} 0 1 = cc in absurd (omega arith)
+reads-over (operator o c) is f none h e = absurd (none-some e)
 reads-over (operator o c) is f (some q) h e = reads-app o c is q f (h q refl) (leb c childLimit) refl (cutP c q) refl e
 
 -- what is read is narrow, and spelled by the items

@@ -17,7 +17,7 @@ use Rattle.model.specs.Tables.{itemFront, itemsFrom, sideBy, sideAt}
 use Rattle.rule_table.specs.declared.Slot.{Slot}
 use Rattle.rule_table.specs.declared.Slot.the-variants.{Variable, Operator, Outside}
 use Rattle.rule_table.specs.Slots.{isSide, itemAt, slotIf, slotOf, holds, holdsFrom, Standing, known, knownFrom}
-use Rattle.rule_table.proofs.Patterns.{itemOk, isRow, scan-read, read-items, Fields, narrow-fields, among, all, stands-among, bound-all}
+use Rattle.rule_table.proofs.Patterns.{none-some, itemOk, isRow, scan-read, read-items, Fields, narrow-fields, among, all, stands-among, bound-all}
 use Rattle.rule_table.proofs.Slots.{scanned, behind, scan-turn, scan-over, scan-done, operator-small}
 
 -- the n slots from `at` on are a side: they say the items of the one pattern q, whose fields are in their sets
@@ -36,8 +36,8 @@ record Front (i : Option Item) (r : Option (List Item)) (is : List Item) : Type 
   joined : item ∷ rest ≡ is
 
 front : (i : Option Item) (r : Option (List Item)) (is : List Item) → itemFront i r ≡ some is → Front i r is
-front none r is e = let z : _≡_ {A = ℕ} 0 1 = cc in absurd (omega arith)
-front (some i) none is e = let z : _≡_ {A = ℕ} 0 1 = cc in absurd (omega arith)
+front none r is e = absurd (none-some e)
+front (some i) none is e = absurd (none-some e)
 front (some i) (some js) is e = record { item = i; rest = js; first = refl; others = refl; joined = cc }
 
 -- n slots say n items
@@ -86,7 +86,7 @@ side-long ws at n h = rw (lt-leb n itemLimit h)
 module _ (ws : List ℕ) (at n : ℕ) (q : Patterns) where
   is-one : (is : List Item) → n ≤ itemLimit → itemsFrom ws at n ≡ some is → (r : Patterns) → readP is ≡ some r → (b : Bool)
       → eqb (countP r) 1 && leb (length (items r)) itemLimit ≡ b → sideIf b r ≡ some q → SideIs ws at n q
-  is-one is h s r d false e p = let z : _≡_ {A = ℕ} 0 1 = cc in absurd (omega arith)
+  is-one is h s r d false e p = absurd (none-some p)
   is-one is h s r d true e p =
       let w = read-items is r d in
       let x : r ≡ q = cc in
@@ -99,14 +99,14 @@ module _ (ws : List ℕ) (at n : ℕ) (q : Patterns) where
 
   is-read : (is : List Item) → n ≤ itemLimit → itemsFrom ws at n ≡ some is → (r : Option Patterns) → readP is ≡ r
       → onePattern r ≡ some q → SideIs ws at n q
-  is-read is h s none d e = let z : _≡_ {A = ℕ} 0 1 = cc in absurd (omega arith)
+  is-read is h s none d e = absurd (none-some e)
   is-read is h s (some r) d e = is-one is h s r d _ refl e
 
   is-items : (b : Bool) → leb n itemLimit ≡ b → (is : Option (List Item)) → itemsFrom ws at n ≡ is → sideBy b is ≡ some q
       → SideIs ws at n q
   unfolding side
-  is-items false l is s e = let z : _≡_ {A = ℕ} 0 1 = cc in absurd (omega arith)
-  is-items true l none s e = let z : _≡_ {A = ℕ} 0 1 = cc in absurd (omega arith)
+  is-items false l is s e = absurd (none-some e)
+  is-items true l none s e = absurd (none-some e)
   is-items true l (some is) s e = is-read is (leb-true n itemLimit l) s (readP is) refl e
 
   pub side-is : sideAt ws at n ≡ some q → SideIs ws at n q
@@ -164,10 +164,10 @@ module _ (on : List Bool) (f : ℕ → Bool) (same : (x : ℕ) → x < variableL
 
 -- "a variable on the right must stand on the left"
 pub known-bound : (ws : List ℕ) (a n b m : ℕ) (l r : Patterns) (on : List Bool) → SideIs ws a n l → SideIs ws b m r
-    → Standing ws a n on
-    → knownFrom on ws b m ≡ bound l r
+    → Standing ws a n on → knownFrom on ws b m ≡ bound l r
 known-bound ws a n b m l r on s t h =
-    known-all on (λ x. stands x l) (λ x k. h x k ∙ holds-stands ws a n l x s k) ws m b (items r) (narrow-fields r (t .narrow)) (t .spelled)
+    known-all on (λ x. stands x l) (λ x k. h x k ∙ holds-stands ws a n l x s k) ws m b (items r)
+    (narrow-fields r (t .narrow)) (t .spelled)
     ∙ sym (bound-all l r)
 
 -- where the walk over a side's slots is: it goes on as the whole goes

@@ -58,12 +58,10 @@ module _ (ws ws′ : List ℕ) (m : ℕ) (l : m * ruleWords ≤ length ws) (l′
 
 -- an entry written behind the accepted ones is judged as it was by itself
 pub rules-more : (ws ws′ es : List ℕ) (n : ℕ) → n * ruleWords ≤ length ws → n * ruleWords + ruleWords ≤ length ws′
-    → length es ≡ ruleWords
-    → Alike ws 0 ws′ 0 (n * ruleWords) → Alike es 0 ws′ (n * ruleWords) ruleWords
-    → rulesIn ws′ (suc n) ≡ withEntry ws n (entryOf es)
+    → length es ≡ ruleWords → Alike ws 0 ws′ 0 (n * ruleWords)
+    → Alike es 0 ws′ (n * ruleWords) ruleWords → rulesIn ws′ (suc n) ≡ withEntry ws n (entryOf es)
 unfolding entries
 rules-more ws ws′ es n l l′ h older new =
-    let e : entryOf es ≡ ruleEntry ws′ n =
-    entry-alone es h ∙ rule-alike es ws′ 0 (n * ruleWords) ruleWords new (omega arith) ∙ sym (entry-whole ws′ n l′) in
+    let e = entry-alone es h ∙ rule-alike es ws′ 0 (n * ruleWords) ruleWords new (omega arith) ∙ sym (entry-whole ws′ n l′) in
     let k = rules-kept ws ws′ n l (omega arith) older in
     rw (e, k)

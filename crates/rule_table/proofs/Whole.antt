@@ -69,9 +69,6 @@ pub judging-start : (ws : List ℕ) → Judging ws 0 0
 judging-start ws = record { accepted = accepted-none ws; place = refl }
 
 module _ (ws : List ℕ) (n pos : ℕ) (g : Judging ws n pos) where
-  pub judging-room : pos ≤ length ws
-  judging-room = omega (arith, g .place, rules-room ws n (g .accepted .rules) (g .accepted .are))
-
   -- at the end of the table
   pub judging-done : length ws ≤ pos → Taken ≡ judgementOf (ruleTable ws)
   unfolding ruleTable

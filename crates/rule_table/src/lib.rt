@@ -193,7 +193,7 @@ fn entry_end(len: usize, pos: usize) -> usize
     if len - pos < RULE_WORDS {
         len
     } else {
-        pos + 387
+        pos + RULE_WORDS
     }
 }
 
