@@ -24,7 +24,7 @@ use Rattle.rule_table.proofs.Slots.{scanned, behind, scan-turn, scan-ov
 pub record SideIs (ws : List ℕ) (at n : ℕ) (q : Patterns) : Type 0 where
   pub few : n ≤ itemLimit
   pub narrow : NarrowP q
-  pub single : countP q ≡ 1
+  pub counted : countP q ≡ 1
   pub spelled : itemsFrom ws at n ≡ some (items q)
 
 -- what an item in front of others says
@@ -91,7 +91,7 @@ module _ (ws : List ℕ) (at n : ℕ) (q : Patterns) where
       let w = read-items is r d in
       let x : r ≡ q = cc in
       let c = eqb-true (countP r) 1 (left (eqb (countP r) 1) _ e) in
-      rw (← x) (record { few = h; narrow = w .narrow; single = c; spelled = s ∙ ap some (w .spelled) })
+      rw (← x) (record { few = h; narrow = w .narrow; counted = c; spelled = s ∙ ap some (w .spelled) })
     where
       left : (a b : Bool) → a && b ≡ true → a ≡ true
       left true b e = refl

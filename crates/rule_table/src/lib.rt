@@ -34,7 +34,7 @@ pub enum Listed {
 }
 
 // What an item slot holds: a variable, an operator with so many children, or a field outside its set.
-pub enum Slot {
+enum Slot {
     Variable(usize),
     Operator(usize),
     Outside,
