@@ -17,8 +17,10 @@ use Rattle.model.specs.Rule.{Rule, orElse, listed, isListed, ruleOf, addRule}
 use Rattle.model.specs.Tables.{onlyIf, sideAt, ruleWords, ruleEntry, andAdd, entries}
 use Rattle.rule_table.specs.declared.Listed.{Listed}
 use Rattle.rule_table.specs.declared.Listed.the-variants.{At, Nowhere}
-use Rattle.rule_table.specs.Entries.{rulesIn, placeIf, placeOf}
+use Rattle.rule_table.specs.Entries.{rulesIn, Accepted, placeIf, placeOf}
+use Rattle.rule_table.proofs.Patterns.{none-some}
 use Rattle.rule_table.proofs.Sides.{SideIs, side-is}
+use Rattle.rule_table.proofs.Parts.{ruleFrom}
 
 -- one turn of the search: the newest entry has the number, or the older ones decide
 pub place-here : (ws : List ℕ) (i x : ℕ) → 0 < i → x ≡ getD ws ((i - 1) * ruleWords) 0 → At (i - 1) ≡ placeOf ws i x
@@ -28,7 +30,8 @@ place-here ws (suc i) x h e =
     let p : suc i - 1 ≡ i = omega arith in
     rw (p, eq-eqb x (getD ws (i * ruleWords) 0) (rw p at e))
 
-pub place-older : (ws : List ℕ) (i x : ℕ) → 0 < i → (x ≡ getD ws ((i - 1) * ruleWords) 0 → ⊥) → placeOf ws (i - 1) x ≡ placeOf ws i x
+pub place-older : (ws : List ℕ) (i x : ℕ) → 0 < i → (x ≡ getD ws ((i - 1) * ruleWords) 0 → ⊥)
+    → placeOf ws (i - 1) x ≡ placeOf ws i x
 unfolding placeOf
 place-older ws zero x h e = absurd (omega arith)
 place-older ws (suc i) x h e =
@@ -47,19 +50,19 @@ pub record EntryIs (ws : List ℕ) (i : ℕ) (r : Rule) : Type 0 where
   pub right : SideIs ws (i * ruleWords + 195) (getD ws (i * ruleWords + 2) 0) (r .right)
 
 module _ (ws : List ℕ) (i : ℕ) (r : Rule) where
-  of-sides : i * ruleWords + ruleWords ≤ length ws → (l : Option Patterns) → sideAt ws (i * ruleWords + 3) (getD ws (i * ruleWords + 1) 0) ≡ l
+  of-sides : i * ruleWords + ruleWords ≤ length ws → (l : Option Patterns)
+      → sideAt ws (i * ruleWords + 3) (getD ws (i * ruleWords + 1) 0) ≡ l
       → (m : Option Patterns) → sideAt ws (i * ruleWords + 195) (getD ws (i * ruleWords + 2) 0) ≡ m
       → ruleOf (getD ws (i * ruleWords) 0) l m ≡ some r → EntryIs ws i r
-  of-sides h none p m q e = let z : _≡_ {A = ℕ} 0 1 = cc in absurd (omega arith)
-  of-sides h (some l) p none q e = let z : _≡_ {A = ℕ} 0 1 = cc in absurd (omega arith)
+  of-sides h none p m q e = absurd (none-some e)
+  of-sides h (some l) p none q e = absurd (none-some e)
   of-sides h (some l) p (some m) q e =
       let x : record { number = getD ws (i * ruleWords) 0; left = l; right = m } ≡ r = cc in
       rw (← x) (record { room = h; number = refl; left = side-is _ _ _ l p; right = side-is _ _ _ m q })
 
   of-room : (b : Bool) → leb (i * ruleWords + ruleWords) (length ws) ≡ b
-      → onlyIf b (ruleOf (getD ws (i * ruleWords) 0) (sideAt ws (i * ruleWords + 3) (getD ws (i * ruleWords + 1) 0)) (sideAt ws (i * ruleWords + 195) (getD ws (i * ruleWords + 2) 0))) ≡ some r
-      → EntryIs ws i r
-  of-room false h e = let z : _≡_ {A = ℕ} 0 1 = cc in absurd (omega arith)
+      → onlyIf b (ruleFrom ws (i * ruleWords)) ≡ some r → EntryIs ws i r
+  of-room false h e = absurd (none-some e)
   of-room true h e = of-sides (leb-true _ _ h) _ refl _ refl e
 
   pub entry-is : ruleEntry ws i ≡ some r → EntryIs ws i r
@@ -73,7 +76,8 @@ record Added (older : List Rule) (e : Option Rule) (rs : List Rule) : Type 0 whe
   rules : rule ∷ older ≡ rs
   fresh : isListed (listed older (rule .number)) ≡ false
 
-fresh-of : (a b c : Bool) (older rs : List Rule) (r : Rule) → refuseIf a 3 (refuseIf (b || c) 5 (good (r ∷ older))) ≡ good rs → (b ≡ false) × (r ∷ older ≡ rs)
+fresh-of : (a b c : Bool) (older rs : List Rule) (r : Rule) → refuseIf a 3 (refuseIf (b || c) 5 (good (r ∷ older))) ≡ good rs
+    → (b ≡ false) × (r ∷ older ≡ rs)
 fresh-of true b c older rs r e = let z : _≡_ {A = ℕ} 0 1 = cc in absurd (omega arith)
 fresh-of false true c older rs r e = let z : _≡_ {A = ℕ} 0 1 = cc in absurd (omega arith)
 fresh-of false false true older rs r e = let z : _≡_ {A = ℕ} 0 1 = cc in absurd (omega arith)
@@ -83,7 +87,8 @@ added : (older : List Rule) (e : Option Rule) (rs : List Rule) → addRule older
 unfolding addRule
 added older none rs h = let z : _≡_ {A = ℕ} 0 1 = cc in absurd (omega arith)
 added older (some r) rs h =
-    let f = fresh-of (leb ruleLimit (length older)) (isListed (listed older (r .number))) (not (bound (r .left) (r .right))) older rs r h in
+    let many = leb ruleLimit (length older) in
+    let f = fresh-of many (isListed (listed older (r .number))) (not (bound (r .left) (r .right))) older rs r h in
     record { rule = r; entry = refl; rules = f .1; fresh = f .0 }
 
 -- the newest accepted entry, and those before it
@@ -104,6 +109,11 @@ newest ws n rs e = newest-by ws n rs (rulesIn ws n) refl e
 none-yet : (ws : List ℕ) (rs : List Rule) → rulesIn ws 0 ≡ good rs → [] ≡ rs
 unfolding entries
 none-yet ws rs e = cc
+
+-- no entry is accepted at the start
+pub accepted-none : (ws : List ℕ) → Accepted ws 0
+unfolding entries
+accepted-none ws = record { rules = []; are = refl }
 
 -- there are as many rules as accepted entries, and these stand there whole
 pub rules-length : (ws : List ℕ) (n : ℕ) (rs : List Rule) → rulesIn ws n ≡ good rs → length rs ≡ n
@@ -138,33 +148,33 @@ abbrev pub ruleAt : List ℕ → Listed → Option Rule
 ruleAt ws (At i) = ruleEntry ws i
 ruleAt ws Nowhere = none
 
-abbrev pub isAt : Listed → Bool
-isAt (At i) = true
-isAt Nowhere = false
-
-listed-newest : (ws : List ℕ) (n : ℕ) (r : Rule) (o : Option Rule) (p : Listed) (b : Bool) → ruleEntry ws n ≡ some r → o ≡ ruleAt ws p
-    → orElse b r o ≡ ruleAt ws (placeIf b n p)
+listed-newest : (ws : List ℕ) (n : ℕ) (r : Rule) (o : Option Rule) (p : Listed) (b : Bool) → ruleEntry ws n ≡ some r
+    → o ≡ ruleAt ws p → orElse b r o ≡ ruleAt ws (placeIf b n p)
 listed-newest ws n r o p true e q = sym e
 listed-newest ws n r o p false e q = q
 
 -- the rule of a number is the one of the entry that lists it
-pub listed-place : (ws : List ℕ) (x n : ℕ) (rs : List Rule) → rulesIn ws n ≡ good rs → listed rs x ≡ ruleAt ws (placeOf ws n x)
+pub listed-place : (ws : List ℕ) (x n : ℕ) (rs : List Rule) → rulesIn ws n ≡ good rs
+    → listed rs x ≡ ruleAt ws (placeOf ws n x)
 unfolding listed placeOf
 listed-place ws x zero rs e = ap (λ (l : List Rule). listed l x) (sym (none-yet ws rs e))
 listed-place ws x (suc n) rs e =
     let w = newest ws n rs e in
     let i = entry-is ws n (w .add .rule) (w .add .entry) in
     ap (λ (l : List Rule). listed l x) (sym (w .add .rules))
-    ∙ rw (i .number) (listed-newest ws n (w .add .rule) _ (placeOf ws n x) (eqb x (getD ws (n * ruleWords) 0)) (w .add .entry) (listed-place ws x n (w .older) (w .before)))
+    ∙ rw (i .number) (listed-newest ws n (w .add .rule) _ (placeOf ws n x) (eqb x (getD ws (n * ruleWords) 0)) (w .add .entry)
+    (listed-place ws x n (w .older) (w .before)))
 
 -- an entry that lists a number has it, and where none does none has it
 module _ (ws : List ℕ) (x n : ℕ) where
-  at-newest : (i : ℕ) (p : Listed) (b : Bool) → eqb x (getD ws (n * ruleWords) 0) ≡ b → (p ≡ At i → (i < n) × (getD ws (i * ruleWords) 0 ≡ x))
+  at-newest : (i : ℕ) (p : Listed) (b : Bool) → eqb x (getD ws (n * ruleWords) 0) ≡ b
+      → (p ≡ At i → (i < n) × (getD ws (i * ruleWords) 0 ≡ x))
       → placeIf b n p ≡ At i → (i < suc n) × (getD ws (i * ruleWords) 0 ≡ x)
   at-newest i p true e h q = let k : n ≡ i = cc in rw (← k) (omega arith, sym (eqb-true _ _ e))
   at-newest i p false e h q = let r = h q in (omega arith, r .1)
 
-  not-newest : (p : Listed) (b : Bool) → eqb x (getD ws (n * ruleWords) 0) ≡ b → (p ≡ Nowhere → (i : ℕ) → i < n → getD ws (i * ruleWords) 0 ≡ x → ⊥)
+  not-newest : (p : Listed) (b : Bool) → eqb x (getD ws (n * ruleWords) 0) ≡ b
+      → (p ≡ Nowhere → (i : ℕ) → i < n → getD ws (i * ruleWords) 0 ≡ x → ⊥)
       → placeIf b n p ≡ Nowhere → (i : ℕ) → i < suc n → getD ws (i * ruleWords) 0 ≡ x → ⊥
   not-newest p true e h q i k d = let z : _≡_ {A = ℕ} 0 1 = cc in omega arith
   not-newest p false e h q i k d =
@@ -189,19 +199,28 @@ pub record Found (ws : List ℕ) (rs : List Rule) (x i : ℕ) : Type 0 where
   pub listed : listed rs x ≡ some rule
   pub is : EntryIs ws i rule
 
-pub rule-found : (ws : List ℕ) (n : ℕ) (rs : List Rule) (x i : ℕ) → rulesIn ws n ≡ good rs → placeOf ws n x ≡ At i → Found ws rs x i
+pub rule-found : (ws : List ℕ) (n : ℕ) (rs : List Rule) (x i : ℕ) → rulesIn ws n ≡ good rs → placeOf ws n x ≡ At i
+    → Found ws rs x i
 rule-found ws n rs x i e p =
     let w = entry-at ws n rs e i (place-at ws x n i p .0) in
     record { rule = w .rule; listed = listed-place ws x n rs e ∙ ap (ruleAt ws) p ∙ w .said; is = w .is }
 
-pub rule-nowhere : (ws : List ℕ) (n : ℕ) (rs : List Rule) (x : ℕ) → rulesIn ws n ≡ good rs → placeOf ws n x ≡ Nowhere → listed rs x ≡ none
+pub rule-nowhere : (ws : List ℕ) (n : ℕ) (rs : List Rule) (x : ℕ) → rulesIn ws n ≡ good rs → placeOf ws n x ≡ Nowhere
+    → listed rs x ≡ none
 rule-nowhere ws n rs x e p = listed-place ws x n rs e ∙ ap (ruleAt ws) p
 
--- "each listed once": an accepted entry with the number is the one that is found
-listed-again : (ws : List ℕ) (n : ℕ) (older : List Rule) (x i : ℕ) → rulesIn ws n ≡ good older → placeOf ws n x ≡ At i → isListed (listed older x) ≡ true
-listed-again ws n older x i e p = ap isListed (rule-found ws n older x i e p .listed)
+-- "each listed once": where an older entry has the number, the newest has another
+newest-apart : (ws : List ℕ) (n : ℕ) (rs : List Rule) → Newest ws n rs → (x i : ℕ) → placeOf ws n x ≡ At i
+    → x ≡ getD ws (n * ruleWords) 0 → ⊥
+newest-apart ws n rs w x i p q =
+    let again = ap isListed (rule-found ws n (w .older) x i (w .before) p .listed) in
+    let number = entry-is ws n (w .add .rule) (w .add .entry) .number in
+    let fresh = ap (λ (y : ℕ). isListed (listed (w .older) y)) (q ∙ sym number) ∙ w .add .fresh in
+    let z : _≡_ {A = ℕ} 0 1 = cc in omega arith
 
-pub place-only : (ws : List ℕ) (x n : ℕ) (rs : List Rule) → rulesIn ws n ≡ good rs → (i : ℕ) → i < n → getD ws (i * ruleWords) 0 ≡ x → placeOf ws n x ≡ At i
+-- so an accepted entry with the number is the one that is found
+pub place-only : (ws : List ℕ) (x n : ℕ) (rs : List Rule) → rulesIn ws n ≡ good rs → (i : ℕ) → i < n
+    → getD ws (i * ruleWords) 0 ≡ x → placeOf ws n x ≡ At i
 unfolding placeOf
 place-only ws x zero rs e i h d = absurd (omega arith)
 place-only ws x (suc n) rs e i h d =
@@ -210,10 +229,5 @@ place-only ws x (suc n) rs e i h d =
       | no p ↦
           let w = newest ws n rs e in
           let older = place-only ws x n (w .older) (w .before) i (omega arith) d in
-          let number = entry-is ws n (w .add .rule) (w .add .entry) .number in
-          let apart : x ≡ getD ws (n * ruleWords) 0 → ⊥ = λ q.
-          let again = listed-again ws n (w .older) x i (w .before) older in
-          let fresh = ap (λ (y : ℕ). isListed (listed (w .older) y)) (q ∙ sym number) ∙ w .add .fresh in
-          let z : _≡_ {A = ℕ} 0 1 = cc in omega arith in
-          rw (ne-eqb x (getD ws (n * ruleWords) 0) apart) older
+          rw (ne-eqb x (getD ws (n * ruleWords) 0) (newest-apart ws n rs w x i older)) older
     ]

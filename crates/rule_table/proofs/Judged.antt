@@ -82,7 +82,8 @@ answerBy true faulty = Faulty 3
 answerBy false true = Faulty 5
 answerBy false false = Taken
 
-answer-by : (many faulty : Bool) (rs : List Rule) → answerBy many faulty ≡ judgementOf (refuseIf many 3 (refuseIf faulty 5 (good rs)))
+answer-by : (many faulty : Bool) (rs : List Rule)
+    → answerBy many faulty ≡ judgementOf (refuseIf many 3 (refuseIf faulty 5 (good rs)))
 answer-by true faulty rs = refl
 answer-by false true rs = refl
 answer-by false false rs = refl

@@ -7,3 +7,4 @@ pub mod Entries
 pub mod Judged
 pub mod Whole
 pub mod Table
+pub mod Frames

@@ -75,7 +75,7 @@ entry-alone es h = rw h
 -- the slots from `at` on begin with the items of the one pattern q: what matching a side asks of its slots
 pub record Spells (ps : List ℕ) (at : ℕ) (q : Patterns) : Type 0 where
   pub narrow : NarrowP q
-  pub single : countP q ≡ 1
+  pub counted : countP q ≡ 1
   pub room : at + 3 * length (items q) ≤ length ps
   pub spelled : itemsFrom ps at (length (items q)) ≡ some (items q)
 
@@ -83,15 +83,17 @@ pub record Spells (ps : List ℕ) (at : ℕ) (q : Patterns) : Type 0 where
 pub side-spells : (ws : List ℕ) (at n : ℕ) (q : Patterns) → SideIs ws at n q → at + n * 3 ≤ length ws → Spells ws at q
 side-spells ws at n q s h =
     let l = items-length ws n at (items q) (s .spelled) in
-    record { narrow = s .narrow; single = s .single; room = omega arith; spelled = rw l (s .spelled) }
+    record { narrow = s .narrow; counted = s .counted; room = omega arith; spelled = rw l (s .spelled) }
 
-pub part-spells : (ws : List ℕ) (at n : ℕ) (q : Patterns) → SideIs ws at n q → (m : ℕ) → at + m ≤ length ws → n * 3 ≤ m → Spells (take m (drop at ws)) 0 q
+pub part-spells : (ws : List ℕ) (at n : ℕ) (q : Patterns) → SideIs ws at n q → (m : ℕ) → at + m ≤ length ws → n * 3 ≤ m
+    → Spells (take m (drop at ws)) 0 q
 part-spells ws at n q s m r h =
     let l = items-length ws n at (items q) (s .spelled) in
     let d : length (take m (drop at ws)) ≡ m = simp (length-take, length-drop) (omega arith) in
+    let same = items-alike (take m (drop at ws)) ws 0 at m (part-alike ws at m) n 0 0 at (omega arith) (omega arith) (omega arith) in
     record {
       narrow = s .narrow;
-      single = s .single;
+      counted = s .counted;
       room = omega arith;
-      spelled = rw l (items-alike (take m (drop at ws)) ws 0 at m (part-alike ws at m) n 0 0 at (omega arith) (omega arith) (omega arith) ∙ s .spelled);
+      spelled = rw l (same ∙ s .spelled);
     }

@@ -62,12 +62,14 @@ module _ (ws : List ℕ) (at n : ℕ) (on : List Bool) (pos left : ℕ) (m : Mar
       let t = slot-turn (Variable y) e h x k in
       elim (ℕ-discrete x y) [
         | yes p ↦
-            let s : getD (set on y true) x false ≡ true = rw p (getD-set-same on y true false (omega (arith, m .size, variable-small (itemAt ws pos) y e))) in
+            let l = variable-small (itemAt ws pos) y e in
+            let s : getD (set on y true) x false ≡ true = rw p (getD-set-same on y true false (omega (arith, m .size))) in
             rw s (or-true (getD on x false) (holdsFrom ws (pos + 3) (left - 1) x) ∙ rw (eq-eqb x y p) at t)
         | no p ↦ rw (getD-set-other on y x true false p) (rw (ne-eqb x y p) at t)
       ]
 
-  pub marking-variable : (y : ℕ) → slotOf (itemAt ws pos) ≡ Variable y → 0 < left → Marking ws at n (set on y true) (pos + 3) (left - 1)
+  pub marking-variable : (y : ℕ) → slotOf (itemAt ws pos) ≡ Variable y → 0 < left
+      → Marking ws at n (set on y true) (pos + 3) (left - 1)
   marking-variable y e h = record { size = length-set on y true ∙ m .size; room = omega arith; goes = marked y e h }
 
   no-mark : (s : Slot) → NoVariable s → slotOf (itemAt ws pos) ≡ s → 0 < left → (x : ℕ) → x < variableLimit
@@ -75,7 +77,8 @@ module _ (ws : List ℕ) (at n : ℕ) (on : List Bool) (pos left : ℕ) (m : Mar
   no-mark (Operator c) f e h x k = slot-turn (Operator c) e h x k
   no-mark Outside f e h x k = slot-turn Outside e h x k
 
-  pub marking-other : (s : Slot) → NoVariable s → slotOf (itemAt ws pos) ≡ s → 0 < left → Marking ws at n on (pos + 3) (left - 1)
+  pub marking-other : (s : Slot) → NoVariable s → slotOf (itemAt ws pos) ≡ s → 0 < left
+      → Marking ws at n on (pos + 3) (left - 1)
   marking-other s f e h = record { size = m .size; room = omega arith; goes = no-mark s f e h }
 
   pub marking-done : left ≡ 0 → Standing ws at n on
@@ -92,21 +95,26 @@ pub record Checking (ws : List ℕ) (at n : ℕ) (on : List Bool) (pos left : �
   pub goes : knownFrom on ws pos left ≡ knownFrom on ws at n
 
 module _ (ws : List ℕ) (at n : ℕ) (on : List Bool) (pos left : ℕ) (m : Checking ws at n on pos left) where
-  known-slot : (s : Slot) → slotOf (itemAt ws pos) ≡ s → 0 < left → known on s && knownFrom on ws (pos + 3) (left - 1) ≡ knownFrom on ws at n
+  known-slot : (s : Slot) → slotOf (itemAt ws pos) ≡ s → 0 < left
+      → known on s && knownFrom on ws (pos + 3) (left - 1) ≡ knownFrom on ws at n
   known-slot s e h =
       ap (λ (t : Slot). known on t && knownFrom on ws (pos + 3) (left - 1)) (sym e) ∙ sym (known-turn ws pos on left h) ∙ m .goes
 
-  pub checking-known : (x : ℕ) → slotOf (itemAt ws pos) ≡ Variable x → getD on x false ≡ true → 0 < left → Checking ws at n on (pos + 3) (left - 1)
+  pub checking-known : (x : ℕ) → slotOf (itemAt ws pos) ≡ Variable x → getD on x false ≡ true → 0 < left
+      → Checking ws at n on (pos + 3) (left - 1)
   checking-known x e k h = record { room = omega arith; goes = rw k at (known-slot (Variable x) e h) }
 
-  pub checking-unknown : (x : ℕ) → slotOf (itemAt ws pos) ≡ Variable x → getD on x false ≡ false → 0 < left → false ≡ knownFrom on ws at n
+  pub checking-unknown : (x : ℕ) → slotOf (itemAt ws pos) ≡ Variable x → getD on x false ≡ false → 0 < left
+      → false ≡ knownFrom on ws at n
   checking-unknown x e k h = rw k at (known-slot (Variable x) e h)
 
-  no-known : (s : Slot) → NoVariable s → slotOf (itemAt ws pos) ≡ s → 0 < left → knownFrom on ws (pos + 3) (left - 1) ≡ knownFrom on ws at n
+  no-known : (s : Slot) → NoVariable s → slotOf (itemAt ws pos) ≡ s → 0 < left
+      → knownFrom on ws (pos + 3) (left - 1) ≡ knownFrom on ws at n
   no-known (Operator c) f e h = known-slot (Operator c) e h
   no-known Outside f e h = known-slot Outside e h
 
-  pub checking-other : (s : Slot) → NoVariable s → slotOf (itemAt ws pos) ≡ s → 0 < left → Checking ws at n on (pos + 3) (left - 1)
+  pub checking-other : (s : Slot) → NoVariable s → slotOf (itemAt ws pos) ≡ s → 0 < left
+      → Checking ws at n on (pos + 3) (left - 1)
   checking-other s f e h = record { room = omega arith; goes = no-known s f e h }
 
   pub checking-done : left ≡ 0 → true ≡ knownFrom on ws at n

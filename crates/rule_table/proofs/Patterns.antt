@@ -1,9 +1,9 @@
 -- Patterns as items: the flat walk by pending counts accepts exactly the items that `readP` reads, what is read is spelled
 -- by its items, and the variables of a pattern are those of its items.
 -- Assumes nothing.
-use Prim.Native.Nat.{ℕ, zero, suc, _+_}
+use Prim.Native.Nat.{ℕ, zero, suc, _+_, _≤_, _<_}
 use mathlib.Core.Bool.{Bool, true, false, _&&_, _||_}
-use mathlib.Core.List.{List, [], _∷_, _++_, append-assoc}
+use mathlib.Core.List.{List, [], _∷_, _++_, append-assoc, append-nil}
 use mathlib.Core.Option.{Option, none, some}
 use mathlib.Core.Path.{_≡_, refl, ap, sym, _∙_}
 use native.Mathlib.Nat.{zero-add, suc-add}
@@ -12,6 +12,10 @@ use borrow.Author.Tests.{lt-ltb, ltb-true, le-leb, leb-true}
 use lib.Dec.{leb, ltb, eqb, eqb·zero-suc, eqb·suc-zero, eqb·suc-suc}
 use Rattle.model.specs.Limits.{childLimit, variableLimit}
 use Rattle.model.specs.Pattern.{Item, variable, operator, Patterns, noPatterns, var, app, countP, items, NarrowP, ReadsP, CutP, longerVar, longerApp, cutP, adoptP, frontVar, overP, readP, stands, bound}
+
+-- nothing is not something
+pub none-some : {A : Type 0} {a : A} → none ≡ some a → ⊥
+none-some e = let z : _≡_ {A = ℕ} 0 1 = cc in omega arith
 
 -- an item's field is in its set; and how many patterns the item wants behind it
 abbrev pub itemOk : Item → Bool
@@ -104,15 +108,15 @@ scan-read (i ∷ is) zero = none-over i (readP is)
 scan-read (i ∷ is) (suc n) = rw (scan-read is (arity i + n)) (row-over i (readP is) n)
 
 -- what a cut leaves: the first c patterns and those behind them
-record CutIs (c : ℕ) (q : Patterns) (p : CutP) : Type 0 where
-  counted : countP (p .front) ≡ c
-  narrow : NarrowP q → NarrowP (p .front) × NarrowP (p .back)
-  spelled : items q ≡ items (p .front) ++ items (p .back)
+pub record CutIs (c : ℕ) (q : Patterns) (p : CutP) : Type 0 where
+  pub counted : countP (p .front) ≡ c
+  pub narrow : NarrowP q → NarrowP (p .front) × NarrowP (p .back)
+  pub spelled : items q ≡ items (p .front) ++ items (p .back)
 
 cut-var : (x : ℕ) (s : Patterns) (c : ℕ) (p : CutP) (r : Option CutP)
     → ((w : CutP) → r ≡ some w → CutIs c s w) → longerVar x r ≡ some p → CutIs (suc c) (var x s) p
 unfolding countP items NarrowP
-cut-var x s c p none h e = let z : _≡_ {A = ℕ} 0 1 = cc in absurd (omega arith)
+cut-var x s c p none h e = absurd (none-some e)
 cut-var x s c p (some w) h e =
     let l : record { front = var x (w .front); back = w .back } ≡ p = cc in
     let i = h w refl in
@@ -125,7 +129,7 @@ cut-var x s c p (some w) h e =
 cut-app : (o : ℕ) (k s : Patterns) (c : ℕ) (p : CutP) (r : Option CutP)
     → ((w : CutP) → r ≡ some w → CutIs c s w) → longerApp o k r ≡ some p → CutIs (suc c) (app o k s) p
 unfolding countP items NarrowP
-cut-app o k s c p none h e = let z : _≡_ {A = ℕ} 0 1 = cc in absurd (omega arith)
+cut-app o k s c p none h e = absurd (none-some e)
 cut-app o k s c p (some w) h e =
     let l : record { front = app o k (w .front); back = w .back } ≡ p = cc in
     let i = h w refl in
@@ -135,12 +139,12 @@ cut-app o k s c p (some w) h e =
       spelled = rw (i .spelled, append-assoc);
     })
 
-cut-is : (c : ℕ) (q : Patterns) (p : CutP) → cutP c q ≡ some p → CutIs c q p
+pub cut-is : (c : ℕ) (q : Patterns) (p : CutP) → cutP c q ≡ some p → CutIs c q p
 unfolding cutP countP items NarrowP
 cut-is zero q p e =
     let l : record { front = noPatterns; back = q } ≡ p = cc in
     rw (← l) (record { counted = refl; narrow = λ n. (tt, n); spelled = refl })
-cut-is (suc c) noPatterns p e = let z : _≡_ {A = ℕ} 0 1 = cc in absurd (omega arith)
+cut-is (suc c) noPatterns p e = absurd (none-some e)
 cut-is (suc c) (var x s) p e = cut-var x s c p (cutP c s) (cut-is c s) e
 cut-is (suc c) (app o k s) p e = cut-app o k s c p (cutP c s) (cut-is c s) e
 
@@ -148,16 +152,17 @@ cut-is (suc c) (app o k s) p e = cut-app o k s c p (cutP c s) (cut-is c s) e
 reads-var : (x : ℕ) (is : List Item) (q f : Patterns) → ReadsP is q → (b : Bool) → ltb x variableLimit ≡ b
     → frontVar b x q ≡ some f → ReadsP (variable x ∷ is) f
 unfolding items NarrowP
-reads-var x is q f h false l e = let z : _≡_ {A = ℕ} 0 1 = cc in absurd (omega arith)
+reads-var x is q f h false l e = absurd (none-some e)
 reads-var x is q f h true l e =
     let p : var x q ≡ f = cc in
     rw (← p) (record { narrow = (ltb-true x variableLimit l, h .narrow); spelled = rw (h .spelled) })
 
-reads-app : (o c : ℕ) (is : List Item) (q f : Patterns) → ReadsP is q → (b : Bool) → leb c childLimit ≡ b → (p : Option CutP) → cutP c q ≡ p
+reads-app : (o c : ℕ) (is : List Item) (q f : Patterns) → ReadsP is q → (b : Bool) → leb c childLimit ≡ b → (p : Option CutP)
+    → cutP c q ≡ p
     → adoptP b o p ≡ some f → ReadsP (operator o c ∷ is) f
 unfolding items NarrowP
-reads-app o c is q f h false l p d e = let z : _≡_ {A = ℕ} 0 1 = cc in absurd (omega arith)
-reads-app o c is q f h true l none d e = let z : _≡_ {A = ℕ} 0 1 = cc in absurd (omega arith)
+reads-app o c is q f h false l p d e = absurd (none-some e)
+reads-app o c is q f h true l none d e = absurd (none-some e)
 reads-app o c is q f h true l (some p) d e =
     let w = cut-is c q p d in
     let n = w .narrow (h .narrow) in
@@ -170,9 +175,9 @@ reads-app o c is q f h true l (some p) d e =
 reads-over : (i : Item) (is : List Item) (f : Patterns) (r : Option Patterns) → ((q : Patterns) → r ≡ some q → ReadsP is q)
     → overP i r ≡ some f → ReadsP (i ∷ is) f
 unfolding overP
-reads-over (variable x) is f none h e = let z : _≡_ {A = ℕ} 0 1 = cc in absurd (omega arith)
+reads-over (variable x) is f none h e = absurd (none-some e)
 reads-over (variable x) is f (some q) h e = reads-var x is q f (h q refl) (ltb x variableLimit) refl e
-reads-over (operator o c) is f none h e = let z : _≡_ {A = ℕ} 0 1 = cc in absurd (omega arith)
+reads-over (operator o c) is f none h e = absurd (none-some e)
 reads-over (operator o c) is f (some q) h e = reads-app o c is q f (h q refl) (leb c childLimit) refl (cutP c q) refl e
 
 -- what is read is narrow, and spelled by the items
@@ -239,3 +244,56 @@ unfolding bound all items
 bound-all l noPatterns = refl
 bound-all l (var y s) = rw (bound-all l s)
 bound-all l (app o k s) = rw (bound-all l k, bound-all l s, all-append)
+
+-- a row of patterns in front of another, and in front of what was read
+unfoldable pub joinP : Patterns → Patterns → Patterns
+joinP noPatterns r = r
+joinP (var x s) r = var x (joinP s r)
+joinP (app o k s) r = app o k (joinP s r)
+
+abbrev pub joinTo : Patterns → Option Patterns → Option Patterns
+joinTo q none = none
+joinTo q (some r) = some (joinP q r)
+
+-- it is cut where it was joined
+pub cut-join : (q r : Patterns) → cutP (countP q) (joinP q r) ≡ some (record { front = q; back = r })
+unfolding cutP countP joinP
+cut-join noPatterns r = refl
+cut-join (var x s) r = rw (cut-join s r)
+cut-join (app o k s) r = rw (cut-join s r)
+
+over-var : (x : ℕ) (s : Patterns) → x < variableLimit → (r : Option Patterns)
+    → overP (variable x) (joinTo s r) ≡ joinTo (var x s) r
+unfolding overP joinP
+over-var x s h none = refl
+over-var x s h (some r) = rw (lt-ltb x variableLimit h)
+
+over-app : (o : ℕ) (k s : Patterns) → countP k ≤ childLimit → (r : Option Patterns)
+    → overP (operator o (countP k)) (joinTo k (joinTo s r)) ≡ joinTo (app o k s) r
+unfolding overP joinP
+over-app o k s h none = refl
+over-app o k s h (some r) = rw (le-leb (countP k) childLimit h, cut-join k (joinP s r))
+
+join-first : (r : Option Patterns) → r ≡ joinTo noPatterns r
+unfolding joinP
+join-first none = refl
+join-first (some r) = refl
+
+join-last : (q : Patterns) → joinP q noPatterns ≡ q
+unfolding joinP
+join-last noPatterns = refl
+join-last (var x s) = rw (join-last s)
+join-last (app o k s) = rw (join-last s)
+
+-- a row's items in front of others: the row, and what these say
+pub read-front : (q : Patterns) → NarrowP q → (is : List Item) → readP (items q ++ is) ≡ joinTo q (readP is)
+unfolding readP items NarrowP joinP
+read-front noPatterns h is = join-first (readP is)
+read-front (var x s) h is = rw (read-front s (h .1) is) (over-var x s (h .0) (readP is))
+read-front (app o k s) h is =
+    let kids = ap readP (append-assoc (items k) (items s) is) ∙ read-front k (h .1) (items s ++ is) in
+    ap (overP (operator o (countP k))) (kids ∙ ap (joinTo k) (read-front s (h .2) is)) ∙ over-app o k s (h .0) (readP is)
+
+pub items-read : (q : Patterns) → NarrowP q → readP (items q) ≡ some q
+unfolding readP
+items-read q h = rw (← append-nil (items q), read-front q h [], join-last q)

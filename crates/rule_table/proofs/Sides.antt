@@ -17,14 +17,14 @@ use Rattle.model.specs.Tables.{itemFront, itemsFrom, sideBy, sideAt}
 use Rattle.rule_table.specs.declared.Slot.{Slot}
 use Rattle.rule_table.specs.declared.Slot.the-variants.{Variable, Operator, Outside}
 use Rattle.rule_table.specs.Slots.{isSide, itemAt, slotIf, slotOf, holds, holdsFrom, Standing, known, knownFrom}
-use Rattle.rule_table.proofs.Patterns.{itemOk, isRow, scan-read, read-items, Fields, narrow-fields, among, all, stands-among, bound-all}
+use Rattle.rule_table.proofs.Patterns.{none-some, itemOk, isRow, scan-read, read-items, Fields, narrow-fields, among, all, stands-among, bound-all}
 use Rattle.rule_table.proofs.Slots.{scanned, behind, scan-turn, scan-over, scan-done, operator-small}
 
 -- the n slots from `at` on are a side: they say the items of the one pattern q, whose fields are in their sets
 pub record SideIs (ws : List ℕ) (at n : ℕ) (q : Patterns) : Type 0 where
   pub few : n ≤ itemLimit
   pub narrow : NarrowP q
-  pub single : countP q ≡ 1
+  pub counted : countP q ≡ 1
   pub spelled : itemsFrom ws at n ≡ some (items q)
 
 -- what an item in front of others says
@@ -36,8 +36,8 @@ record Front (i : Option Item) (r : Option (List Item)) (is : List Item) : Type 
   joined : item ∷ rest ≡ is
 
 front : (i : Option Item) (r : Option (List Item)) (is : List Item) → itemFront i r ≡ some is → Front i r is
-front none r is e = let z : _≡_ {A = ℕ} 0 1 = cc in absurd (omega arith)
-front (some i) none is e = let z : _≡_ {A = ℕ} 0 1 = cc in absurd (omega arith)
+front none r is e = absurd (none-some e)
+front (some i) none is e = absurd (none-some e)
 front (some i) (some js) is e = record { item = i; rest = js; first = refl; others = refl; joined = cc }
 
 -- n slots say n items
@@ -49,19 +49,25 @@ items-length ws (suc n) at is e =
     ap length (sym (f .joined)) ∙ ap suc (items-length ws n (at + 3) (f .rest) (f .others))
 
 eqb-turn : (m n : ℕ) → eqb m n ≡ eqb n m
-eqb-turn m n = elim (ℕ-discrete m n) [ yes p ↦ rw (eq-eqb m n p, eq-eqb n m (sym p)) | no p ↦ rw (ne-eqb m n p, ne-eqb n m (λ e. p (sym e))) ]
+eqb-turn m n =
+    elim (ℕ-discrete m n) [
+      | yes p ↦ rw (eq-eqb m n p, eq-eqb n m (sym p))
+      | no p ↦ rw (ne-eqb m n p, ne-eqb n m (λ e. p (sym e)))
+    ]
 
 is-side-if : (b : Bool) (q : Patterns) → b ≡ isSide (sideIf (b && true) q)
 is-side-if true q = refl
 is-side-if false q = refl
 
-one-pattern : (is : List Item) → length is ≤ itemLimit → (r : Option Patterns) → readP is ≡ r → isRow 1 r ≡ isSide (onePattern r)
+one-pattern : (is : List Item) → length is ≤ itemLimit → (r : Option Patterns) → readP is ≡ r
+    → isRow 1 r ≡ isSide (onePattern r)
 one-pattern is h none e = refl
 one-pattern is h (some q) e =
     let l = ap length (read-items is q e .spelled) in
     rw (le-leb (length (items q)) itemLimit (omega arith), eqb-turn 1 (countP q)) (is-side-if (eqb (countP q) 1) q)
 
-scan-items : (is : Option (List Item)) → ((js : List Item) → is ≡ some js → length js ≤ itemLimit) → scanned is 1 ≡ isSide (sideBy true is)
+scan-items : (is : Option (List Item)) → ((js : List Item) → is ≡ some js → length js ≤ itemLimit)
+    → scanned is 1 ≡ isSide (sideBy true is)
 unfolding side
 scan-items none h = refl
 scan-items (some is) h = scan-read is 1 ∙ one-pattern is (h is refl) (readP is) refl
@@ -80,24 +86,27 @@ side-long ws at n h = rw (lt-leb n itemLimit h)
 module _ (ws : List ℕ) (at n : ℕ) (q : Patterns) where
   is-one : (is : List Item) → n ≤ itemLimit → itemsFrom ws at n ≡ some is → (r : Patterns) → readP is ≡ some r → (b : Bool)
       → eqb (countP r) 1 && leb (length (items r)) itemLimit ≡ b → sideIf b r ≡ some q → SideIs ws at n q
-  is-one is h s r d false e p = let z : _≡_ {A = ℕ} 0 1 = cc in absurd (omega arith)
+  is-one is h s r d false e p = absurd (none-some p)
   is-one is h s r d true e p =
       let w = read-items is r d in
       let x : r ≡ q = cc in
-      rw (← x) (record { few = h; narrow = w .narrow; single = eqb-true (countP r) 1 (left (eqb (countP r) 1) _ e); spelled = s ∙ ap some (w .spelled) })
+      let c = eqb-true (countP r) 1 (left (eqb (countP r) 1) _ e) in
+      rw (← x) (record { few = h; narrow = w .narrow; counted = c; spelled = s ∙ ap some (w .spelled) })
     where
       left : (a b : Bool) → a && b ≡ true → a ≡ true
       left true b e = refl
       left false b e = e
 
-  is-read : (is : List Item) → n ≤ itemLimit → itemsFrom ws at n ≡ some is → (r : Option Patterns) → readP is ≡ r → onePattern r ≡ some q → SideIs ws at n q
-  is-read is h s none d e = let z : _≡_ {A = ℕ} 0 1 = cc in absurd (omega arith)
+  is-read : (is : List Item) → n ≤ itemLimit → itemsFrom ws at n ≡ some is → (r : Option Patterns) → readP is ≡ r
+      → onePattern r ≡ some q → SideIs ws at n q
+  is-read is h s none d e = absurd (none-some e)
   is-read is h s (some r) d e = is-one is h s r d _ refl e
 
-  is-items : (b : Bool) → leb n itemLimit ≡ b → (is : Option (List Item)) → itemsFrom ws at n ≡ is → sideBy b is ≡ some q → SideIs ws at n q
+  is-items : (b : Bool) → leb n itemLimit ≡ b → (is : Option (List Item)) → itemsFrom ws at n ≡ is → sideBy b is ≡ some q
+      → SideIs ws at n q
   unfolding side
-  is-items false l is s e = let z : _≡_ {A = ℕ} 0 1 = cc in absurd (omega arith)
-  is-items true l none s e = let z : _≡_ {A = ℕ} 0 1 = cc in absurd (omega arith)
+  is-items false l is s e = absurd (none-some e)
+  is-items true l none s e = absurd (none-some e)
   is-items true l (some is) s e = is-read is (leb-true n itemLimit l) s (readP is) refl e
 
   pub side-is : sideAt ws at n ≡ some q → SideIs ws at n q
@@ -113,12 +122,14 @@ no-variable : (x c : ℕ) (b : Bool) → holds x (slotIf b (Operator c)) ≡ fal
 no-variable x c true = refl
 no-variable x c false = refl
 
-item-holds : (x : ℕ) (i : Item) (is : List Item) → x < variableLimit → holds x (slotOf (some i)) || among x is ≡ among x (i ∷ is)
+item-holds : (x : ℕ) (i : Item) (is : List Item) → x < variableLimit
+    → holds x (slotOf (some i)) || among x is ≡ among x (i ∷ is)
 unfolding among
 item-holds x (variable y) is h = rw (slot-holds x y h (ltb y variableLimit) refl)
 item-holds x (operator o c) is h = rw (no-variable x c (leb c childLimit))
 
-holds-among : (ws : List ℕ) (x : ℕ) → x < variableLimit → (n at : ℕ) (is : List Item) → itemsFrom ws at n ≡ some is → holdsFrom ws at n x ≡ among x is
+holds-among : (ws : List ℕ) (x : ℕ) → x < variableLimit → (n at : ℕ) (is : List Item) → itemsFrom ws at n ≡ some is
+    → holdsFrom ws at n x ≡ among x is
 unfolding itemsFrom holdsFrom among
 holds-among ws x h zero at is e = let p : [] ≡ is = cc in ap (among x) p
 holds-among ws x h (suc n) at is e =
@@ -128,7 +139,8 @@ holds-among ws x h (suc n) at is e =
     ∙ item-holds x (f .item) (f .rest) h
     ∙ ap (among x) (f .joined)
 
-pub holds-stands : (ws : List ℕ) (at n : ℕ) (q : Patterns) (x : ℕ) → SideIs ws at n q → x < variableLimit → holdsFrom ws at n x ≡ stands x q
+pub holds-stands : (ws : List ℕ) (at n : ℕ) (q : Patterns) (x : ℕ) → SideIs ws at n q → x < variableLimit
+    → holdsFrom ws at n x ≡ stands x q
 holds-stands ws at n q x s h = holds-among ws x h n at (items q) (s .spelled) ∙ sym (stands-among x q)
 
 -- whether each variable that the slots hold is one of those given
@@ -138,7 +150,8 @@ module _ (on : List Bool) (f : ℕ → Bool) (same : (x : ℕ) → x < variableL
   item-known (variable y) is e = rw (e, same y (ltb-true y variableLimit e))
   item-known (operator o c) is e = rw e
 
-  known-all : (ws : List ℕ) (n at : ℕ) (is : List Item) → Fields is → itemsFrom ws at n ≡ some is → knownFrom on ws at n ≡ all f is
+  known-all : (ws : List ℕ) (n at : ℕ) (is : List Item) → Fields is → itemsFrom ws at n ≡ some is
+      → knownFrom on ws at n ≡ all f is
   unfolding itemsFrom knownFrom all Fields
   known-all ws zero at is g e = let p : [] ≡ is = cc in ap (all f) p
   known-all ws (suc n) at is g e =
@@ -150,10 +163,11 @@ module _ (on : List Bool) (f : ℕ → Bool) (same : (x : ℕ) → x < variableL
       ∙ ap (all f) (w .joined)
 
 -- "a variable on the right must stand on the left"
-pub known-bound : (ws : List ℕ) (a n b m : ℕ) (l r : Patterns) (on : List Bool) → SideIs ws a n l → SideIs ws b m r → Standing ws a n on
-    → knownFrom on ws b m ≡ bound l r
+pub known-bound : (ws : List ℕ) (a n b m : ℕ) (l r : Patterns) (on : List Bool) → SideIs ws a n l → SideIs ws b m r
+    → Standing ws a n on → knownFrom on ws b m ≡ bound l r
 known-bound ws a n b m l r on s t h =
-    known-all on (λ x. stands x l) (λ x k. h x k ∙ holds-stands ws a n l x s k) ws m b (items r) (narrow-fields r (t .narrow)) (t .spelled)
+    known-all on (λ x. stands x l) (λ x k. h x k ∙ holds-stands ws a n l x s k) ws m b (items r)
+    (narrow-fields r (t .narrow)) (t .spelled)
     ∙ sym (bound-all l r)
 
 -- where the walk over a side's slots is: it goes on as the whole goes
@@ -180,10 +194,12 @@ module _ (ws : List ℕ) (at n pos left pending : ℕ) (w : Walk ws at n pos lef
       ap (λ (x : Slot). behind x (itemsFrom ws (pos + 3) (left - 1)) (pending - 1)) (sym e) ∙ sym (scan-turn ws pos left pending h k)
       ∙ w .goes
 
-  pub walk-variable : (x : ℕ) → slotOf (itemAt ws pos) ≡ Variable x → 0 < left → 0 < pending → Walk ws at n (pos + 3) (left - 1) (pending - 1)
+  pub walk-variable : (x : ℕ) → slotOf (itemAt ws pos) ≡ Variable x → 0 < left → 0 < pending
+      → Walk ws at n (pos + 3) (left - 1) (pending - 1)
   walk-variable x e h k = record { few = w .few; room = omega arith; slow = omega arith; goes = turn (Variable x) e h k }
 
-  pub walk-operator : (c : ℕ) → slotOf (itemAt ws pos) ≡ Operator c → 0 < left → 0 < pending → Walk ws at n (pos + 3) (left - 1) (pending - 1 + c)
+  pub walk-operator : (c : ℕ) → slotOf (itemAt ws pos) ≡ Operator c → 0 < left → 0 < pending
+      → Walk ws at n (pos + 3) (left - 1) (pending - 1 + c)
   walk-operator c e h k =
       let f = operator-small (itemAt ws pos) c e in
       record { few = w .few; room = omega arith; slow = omega arith; goes = turn (Operator c) e h k }

@@ -105,12 +105,14 @@ module _ (ws : List ℕ) (at : ℕ) where
   scan-done n p e = rw e
 
   -- one turn of each pass over the variables
-  pub holds-turn : (n x : ℕ) → 0 < n → holdsFrom ws at n x ≡ holds x (slotOf (itemAt ws at)) || holdsFrom ws (at + 3) (n - 1) x
+  pub holds-turn : (n x : ℕ) → 0 < n
+      → holdsFrom ws at n x ≡ holds x (slotOf (itemAt ws at)) || holdsFrom ws (at + 3) (n - 1) x
   unfolding holdsFrom
   holds-turn zero x h = absurd (omega arith)
   holds-turn (suc n) x h = let e : suc n - 1 ≡ n = omega arith in rw e
 
-  pub known-turn : (on : List Bool) (n : ℕ) → 0 < n → knownFrom on ws at n ≡ known on (slotOf (itemAt ws at)) && knownFrom on ws (at + 3) (n - 1)
+  pub known-turn : (on : List Bool) (n : ℕ) → 0 < n
+      → knownFrom on ws at n ≡ known on (slotOf (itemAt ws at)) && knownFrom on ws (at + 3) (n - 1)
   unfolding knownFrom
   known-turn on zero h = absurd (omega arith)
   known-turn on (suc n) h = let e : suc n - 1 ≡ n = omega arith in rw e

@@ -1,7 +1,7 @@
 -- A whole table judged entry by entry: each entry is judged as the part of the table that it is, and the first bad one decides.
 -- Assumes nothing.
 use Prim.Native.Nat.{ℕ, zero, suc, _+_, _*_, _-_, _/_, _≤_, _<_, min}
-use mathlib.Core.List.{List, []}
+use mathlib.Core.List.{List}
 use mathlib.Core.Path.{_≡_, refl, ap, sym, _∙_}
 use native.Mathlib.Decide.{decLe}
 use native.Mathlib.Nat.{zero-add, suc-add}
@@ -15,7 +15,7 @@ use Rattle.model.specs.Judged.{Judged, good, bad, judgementOf}
 use Rattle.model.specs.Rule.{Rule}
 use Rattle.model.specs.Tables.{ruleWords, ruleEntry, entries, ruleTable}
 use Rattle.rule_table.specs.Entries.{rulesIn, Accepted, entryOf}
-use Rattle.rule_table.proofs.Entries.{rules-room}
+use Rattle.rule_table.proofs.Entries.{accepted-none, rules-room}
 use Rattle.rule_table.proofs.Judged.{other-length, Answers}
 use Rattle.rule_table.proofs.Parts.{rule-alike, part-alike, entry-whole, entry-alone}
 
@@ -29,14 +29,16 @@ module _ (ws : List ℕ) (i : ℕ) where
       ∙ rule-alike part ws 0 (i * ruleWords) ruleWords (part-alike ws (i * ruleWords) ruleWords) (omega arith)
       ∙ sym (entry-whole ws i h)
 
-  short : length ws < i * ruleWords + ruleWords → (e : ℕ) → e < i * ruleWords + ruleWords → entryOf (take (e - i * ruleWords) (drop (i * ruleWords) ws)) ≡ ruleEntry ws i
+  short : length ws < i * ruleWords + ruleWords → (e : ℕ) → e < i * ruleWords + ruleWords
+      → entryOf (take (e - i * ruleWords) (drop (i * ruleWords) ws)) ≡ ruleEntry ws i
   unfolding ruleEntry
   short h e l =
       let part = take (e - i * ruleWords) (drop (i * ruleWords) ws) in
       let less : length part < ruleWords = simp (length-take, length-drop) (omega arith) in
       other-length part (λ p. omega arith) ∙ rw (lt-leb _ _ h)
 
-  pub entry-part : (pos e : ℕ) → pos ≡ i * ruleWords → e ≡ min (pos + ruleWords) (length ws) → entryOf (take (e - pos) (drop pos ws)) ≡ ruleEntry ws i
+  pub entry-part : (pos e : ℕ) → pos ≡ i * ruleWords → e ≡ min (pos + ruleWords) (length ws)
+      → entryOf (take (e - pos) (drop pos ws)) ≡ ruleEntry ws i
   entry-part pos e p q =
       elim (decLe (i * ruleWords + ruleWords) (length ws)) [
         | yes l ↦ let d : e - i * ruleWords ≡ ruleWords = omega arith in rw (p, d) (full l)
@@ -64,13 +66,9 @@ pub record Judging (ws : List ℕ) (n pos : ℕ) : Type 0 where
   pub place : pos ≡ n * ruleWords
 
 pub judging-start : (ws : List ℕ) → Judging ws 0 0
-unfolding entries
-judging-start ws = record { accepted = record { rules = []; are = refl }; place = refl }
+judging-start ws = record { accepted = accepted-none ws; place = refl }
 
 module _ (ws : List ℕ) (n pos : ℕ) (g : Judging ws n pos) where
-  pub judging-room : pos ≤ length ws
-  judging-room = omega (arith, g .place, rules-room ws n (g .accepted .rules) (g .accepted .are))
-
   -- at the end of the table
   pub judging-done : length ws ≤ pos → Taken ≡ judgementOf (ruleTable ws)
   unfolding ruleTable

@@ -34,7 +34,7 @@ pub enum Listed {
 }
 
 // What an item slot holds: a variable, an operator with so many children, or a field outside its set.
-pub enum Slot {
+enum Slot {
     Variable(usize),
     Operator(usize),
     Outside,
@@ -193,7 +193,7 @@ fn entry_end(len: usize, pos: usize) -> usize
     if len - pos < RULE_WORDS {
         len
     } else {
-        pos + 387
+        pos + RULE_WORDS
     }
 }
 

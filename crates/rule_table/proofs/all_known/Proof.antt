@@ -30,7 +30,8 @@ array-read-if1 : tie.Need-array-read-if1 Inv-loop μ-loop
 array-read-if1 c =
     let l = c .before .before .before .before .before in
     let a = l .before .before .args in
-    omega (arith, variable-small (itemAt (a .words .now) (l .loop .pos)) _ (sym (c .before .before .before .item-at .ensures) ∙ c .before .slot .given .1))
+    let e = sym (c .before .before .before .item-at .ensures) ∙ c .before .slot .given .1 in
+    omega (arith, variable-small (itemAt (a .words .now) (l .loop .pos)) _ e)
 
 returns : tie.Need-returns Inv-loop μ-loop
 returns c =

@@ -44,7 +44,8 @@ add-pending : tie.Need-add-pending Inv-loop μ-loop
 add-pending c =
     let l = c .before .before .before .before .before .before in
     let a = l .before .before .before .args in
-    omega (arith, operator-small (itemAt (a .words .now) (l .loop .pos)) _ (sym (c .before .before .before .item-at .ensures) ∙ c .before .slot .given .1))
+    let e = sym (c .before .before .before .item-at .ensures) ∙ c .before .slot .given .1 in
+    omega (arith, operator-small (itemAt (a .words .now) (l .loop .pos)) _ e)
 
 enum-told-2 : tie.Need-enum-told-2 Inv-loop μ-loop
 enum-told-2 c = search needs

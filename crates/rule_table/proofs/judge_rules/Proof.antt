@@ -42,7 +42,9 @@ returns : tie.Need-returns Inv-loop μ-loop
 returns c =
     let l = c .before .before .before .before .before .before .before in
     let g = l .loop .inv in
-    judging-faulty _ _ _ g _ (entry-part _ _ _ _ (g .place) (c .before .before .before .before .before .entry-end .ensures)) (omega arith) _ (sym (c .before .judged .given .1) ∙ c .before .before .before .judge-rule .ensures)
+    let e = c .before .before .before .before .before .entry-end .ensures in
+    judging-faulty _ _ _ g _ (entry-part _ _ _ _ (g .place) e) (omega arith) _
+    (sym (c .before .judged .given .1) ∙ c .before .before .before .judge-rule .ensures)
 
 enum-told : tie.Need-enum-told Inv-loop μ-loop
 enum-told c = search needs

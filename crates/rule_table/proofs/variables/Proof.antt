@@ -29,7 +29,8 @@ array-write-on : tie.Need-array-write-on Inv-loop μ-loop
 array-write-on c =
     let l = c .before .before .before .before .before in
     let a = l .before .before .args in
-    omega (arith, variable-small (itemAt (a .words .now) (l .loop .pos)) _ (sym (c .before .before .before .item-at .ensures) ∙ c .before .slot .given .1))
+    let e = sym (c .before .before .before .item-at .ensures) ∙ c .before .slot .given .1 in
+    omega (arith, variable-small (itemAt (a .words .now) (l .loop .pos)) _ e)
 
 add-pos : tie.Need-add-pos Inv-loop μ-loop
 add-pos c = search needs
