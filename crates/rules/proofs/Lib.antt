@@ -4,4 +4,3 @@ pub mod Item
 pub mod Match
 pub mod Matching
 pub mod Fit
-pub mod Sides

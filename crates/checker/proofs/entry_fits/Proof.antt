@@ -1,14 +1,9 @@
 -- `checker::entry_fits` meets its contract: the entry's two sides are lent to the matcher.
 -- Assumes nothing.
 use native.Mathlib.Omega.{arith}
-use Prim.Native.Nat.{_+_, _*_, _-_}
-use mathlib.Core.Path.{_≡_, refl}
-use lib.ListN.{take, drop}
 use Rattle.model.specs.Term.{one}
-use Rattle.model.specs.Rule.{Rule}
 use Rattle.rule_table.proofs.Entries.{EntryIs, entry-is}
-use Rattle.rules.specs.Pattern.{PatternsAt}
-use Rattle.checker.proofs.Entries.{lent, decides-fits}
+use Rattle.checker.proofs.Entries.{left-lent, right-lent, decides-fits}
 use Rattle.checker.proofs.entry_fits.Statement.{statement}
 use Rattle.checker.proofs.entry_fits.Tie as tie
 
@@ -52,28 +47,17 @@ part-rule-fits-start-2 c = omega (arith, entry (c .before .before .before) .room
 part-rule-fits-end-2 : tie.Need-part-rule-fits-end-2
 part-rule-fits-end-2 c = omega (arith, entry (c .before .before .before) .room, c .before .before .before .good .0)
 
--- its sides, as they are lent
-left : (c : tie.Start) (r : Rule) → EntryIs (c .args .rules .now) (c .args .i) r
-    → let at = c .args .i * 387 + 3 in PatternsAt (take (at + 192 - at) (drop at (c .args .rules .now))) 0 1 (r .left)
-left c r e = lent (c .args .rules .now) _ _ _ _ (r .left) (e .left) refl refl (omega (arith, e .room))
-
-right : (c : tie.Start) (r : Rule) → EntryIs (c .args .rules .now) (c .args .i) r
-    → let at = c .args .i * 387 + 3 + 192 in PatternsAt (take (at + 192 - at) (drop at (c .args .rules .now))) 0 1 (r .right)
-right c r e =
-    let at : c .args .i * 387 + 3 + 192 ≡ c .args .i * 387 + 195 = omega arith in
-    lent (c .args .rules .now) _ _ _ _ (r .right) (e .right) at refl (omega (arith, e .room))
-
 rule-fits-requires : tie.Need-rule-fits-requires
 rule-fits-requires c κs =
     let s = c .before .before .before .before in
-    (record { pattern = _; is = left s _ (entry s) }, (record { pattern = _; is = right s _ (entry s) }, (s .pre .1 .0, s .pre .1 .1)))
+    (record { pattern = _; is = left-lent _ _ _ (entry s) }, (record { pattern = _; is = right-lent _ _ _ (entry s) }, (s .pre .1 .0, s .pre .1 .1)))
 
 returns : tie.Need-returns
 returns c = λ x e a b t u ht hu.
     let s = c .before .before .before .before .before in
     let is = entry-is (s .args .rules .now) (s .args .i) x e in
     decides-fits (c .rule-fits .result) (x .left) (x .right) (one t) (one u)
-    (c .rule-fits .ensures (x .left) (x .right) (left s x is) (right s x is) a b t u ht hu)
+    (c .rule-fits .ensures (x .left) (x .right) (left-lent _ _ x is) (right-lent _ _ x is) a b t u ht hu)
 
 pub entry-fits-spec : {M : Type 1} → statement M
 entry-fits-spec =

@@ -19,10 +19,10 @@ node-at-requires : tie.Need-node-at-requires
 node-at-requires c κs = let s = c .before .before in well-room (s .args .words .now) (s .args .j) (s .pre .1 .1)
 
 rule-at-requires : tie.Need-rule-at-requires
-rule-at-requires c κs = c .before .before .before .before .pre
+rule-at-requires c κs = search needs
 
 rule-at-requires-2 : tie.Need-rule-at-requires-2
-rule-at-requires-2 c κs = let p = c .before .before .before .before .pre in (p .0, (p .1 .1, p .1 .0))
+rule-at-requires-2 c κs = search needs
 
 -- the node's mark and rule are those of the term
 mark : (n : Node) (ws : List ℕ) (j e : ℕ) (u : Term) → n ≡ nodeOf ws j → TermAt ws j e u → n .mark ≡ markWord (u .mark)
