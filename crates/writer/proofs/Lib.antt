@@ -1,2 +1,7 @@
 pub mod Rows
 pub mod NodeTerms
+pub mod Walked
+pub mod Within
+pub mod Twins
+pub mod Appended
+pub mod Way

@@ -1,2 +1,3 @@
 pub mod Marks
+pub mod Ends
 pub mod Below
