@@ -5,3 +5,5 @@ pub mod Within
 pub mod Twins
 pub mod Appended
 pub mod Way
+pub mod Needed
+pub mod Marked
