@@ -57,6 +57,9 @@ module _ (ns : List Node) (cs : List Connection) (proof : ℕ → ℕ → Terms)
       (within-size o before (row (termOf ns) xs) (proof x y) ∙ rw (h x y (p .0), i x y (p .0), e, terms-size ns xs))
       (runs-size d rec h i o next (w + sizeOf ns y) (omega (arith, size-join before (one (termOf ns y)), term-size ns y)) xs ys (p .1))
 
+  pub held-unmarked : (before : Terms) → marks before ≡ 0 → (y : ℕ) → marks (join before (one (termOf ns y))) ≡ 0
+  held-unmarked before e y = omega (arith, marks-join before (one (termOf ns y)), term-unmarked ns y)
+
   runs-one-mark : Known (λ x y. OneMarkEach (proof x y)) → (o : ℕ) (before : Terms) → marks before ≡ 0 → (xs ys : List ℕ) →
       Paired cs xs ys → OneMarkEach (runs ns proof o before xs ys)
   unfolding runs OneMarkEach
@@ -66,26 +69,34 @@ module _ (ns : List Node) (cs : List Connection) (proof : ℕ → ℕ → Terms)
       let next = join before (one (termOf ns y)) in
       one-mark-join (within o before (row (termOf ns) xs) (proof x y)) (runs ns proof o next xs ys)
       (within-one-mark o before (row (termOf ns) xs) e (terms-unmarked ns xs) (proof x y) (h x y (p .0)))
-      (runs-one-mark h o next (omega (arith, marks-join before (one (termOf ns y)), term-unmarked ns y)) xs ys (p .1))
+      (runs-one-mark h o next (held-unmarked before e y) xs ys (p .1))
+
+  -- after a child's run the node has the new child before those still to come
+  pub after-run : (o : ℕ) (before : Terms) → marks before ≡ 0 → (x y : ℕ) (xs : List ℕ) (f t : Terms) →
+      strip (lastOr (one (termOf ns x)) f) ≡ strip (one (termOf ns y)) →
+      strip t ≡ strip (tree o unmarked (join before (row (termOf ns) (x ∷ xs))) noTerms) →
+      strip (lastOr t (within o before (row (termOf ns) xs) f))
+      ≡ strip (tree o unmarked (join (join before (one (termOf ns y))) (row (termOf ns) xs)) noTerms)
+  unfolding within row join
+  after-run o before e x y xs f t h q =
+      within-arrives o before (row (termOf ns) xs) e (terms-unmarked ns xs) t (one (termOf ns x)) f (one (termOf ns y)) q h
+      ∙ ap (λ k. strip (tree o unmarked k noTerms)) (sym (join-assoc before (one (termOf ns y)) (row (termOf ns) xs)))
 
   runs-arrive : Known (λ x y. strip (lastOr (one (termOf ns x)) (proof x y)) ≡ strip (one (termOf ns y))) → (o : ℕ) (before : Terms) →
       marks before ≡ 0 → (xs ys : List ℕ) → Paired cs xs ys → (t : Terms) →
       strip t ≡ strip (tree o unmarked (join before (row (termOf ns) xs)) noTerms) →
       strip (lastOr t (runs ns proof o before xs ys)) ≡ strip (tree o unmarked (join before (row (termOf ns) ys)) noTerms)
-  unfolding runs lastOr within row join
+  unfolding runs lastOr row join
   runs-arrive h o before e [] [] p t q = q
   runs-arrive h o before e [] (y ∷ ys) p t q = absurd p
   runs-arrive h o before e (x ∷ xs) [] p t q = absurd p
   runs-arrive h o before e (x ∷ xs) (y ∷ ys) p t q =
-      let new = one (termOf ns y) in
-      let next = join before new in
+      let next = join before (one (termOf ns y)) in
       let run = within o before (row (termOf ns) xs) (proof x y) in
-      let turn =
-      within-arrives o before (row (termOf ns) xs) e (terms-unmarked ns xs) t (one (termOf ns x)) (proof x y) new q (h x y (p .0))
-      ∙ ap (λ k. strip (tree o unmarked k noTerms)) (sym (join-assoc before new (row (termOf ns) xs))) in
       ap strip (last-join t run (runs ns proof o next xs ys))
-      ∙ runs-arrive h o next (omega (arith, marks-join before new, term-unmarked ns y)) xs ys (p .1) (lastOr t run) turn
-      ∙ ap (λ k. strip (tree o unmarked k noTerms)) (join-assoc before new (row (termOf ns) ys))
+      ∙ runs-arrive h o next (held-unmarked before e y) xs ys (p .1) (lastOr t run)
+      (after-run o before e x y xs (proof x y) t (h x y (p .0)) q)
+      ∙ ap (λ k. strip (tree o unmarked k noTerms)) (join-assoc before (one (termOf ns y)) (row (termOf ns) ys))
 
   -- what a connection appends
   abbrev Support : Justification → ℕ → ℕ → Type 0

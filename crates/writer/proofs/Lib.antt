@@ -7,3 +7,5 @@ pub mod Appended
 pub mod Way
 pub mod Needed
 pub mod Marked
+pub mod Stepping
+pub mod Steps

@@ -33,13 +33,16 @@ module _ (ns : List Node) (below : Below ns) where
   sizes : (cs : List Connection) → Accepted ns cs → AllGive noTerms join (laterStep ns) 0 _+_ (laterSizeStep ns) Sized sized-none sized-two cs
   unfolding later laterSize
   sizes [] a = tt
-  sizes (c ∷ cs) a = (λ known.
-      let t = supported-twins (c .why) (cur c) (nxt c) (sound (a .0) .support) in
-      let counts : (x y : ℕ) → root cs x ≡ root cs y → count (later ns cs x y) ≡ dist ns cs x y = λ x y j. way ns below cs (a .1) x y j .counted in
-      let own : (up : Bool) (x y : ℕ) → (c .why ≡ Congruence → Twins ns cs x y) →
-          size (appended ns (later ns cs) (c .why) up x y) ≡ appendedSize ns (dist ns cs) (laterSize ns cs) (c .why) x y =
+  sizes (c ∷ cs) a = (
+    λ known.
+        let t = supported-twins (c .why) (cur c) (nxt c) (sound (a .0) .support) in
+        let counts : (x y : ℕ) → root cs x ≡ root cs y → count (later ns cs x y) ≡ dist ns cs x y = λ x y j. way ns below cs (a .1) x y j .counted in
+        let own : (up : Bool) (x y : ℕ) → (c .why ≡ Congruence → Twins ns cs x y) →
+        size (appended ns (later ns cs) (c .why) up x y) ≡ appendedSize ns (dist ns cs) (laterSize ns cs) (c .why) x y =
         appended-size ns cs (later ns cs) (dist ns cs) (laterSize ns cs) counts known (c .why) in
-      record { up = own true (cur c) (nxt c) t; down = own false (nxt c) (cur c) (λ e. twins-turned (t e)) }, sizes cs (a .1))
+        record { up = own true (cur c) (nxt c) t; down = own false (nxt c) (cur c) (λ e. twins-turned (t e)) },
+    sizes cs (a .1),
+  )
 
   pub later-size : (cs : List Connection) → Accepted ns cs → (l r : ℕ) → root cs l ≡ root cs r → size (later ns cs l r) ≡ laterSize ns cs l r
   unfolding later laterSize

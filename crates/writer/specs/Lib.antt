@@ -1,3 +1,4 @@
 pub mod Marks
 pub mod Ends
 pub mod Below
+pub mod Instances

@@ -1,0 +1,117 @@
+-- Where each rule connection is an instance of its listed rule, each later term between two joined nodes is one step of the checker from the
+-- one before, the first from the left node's term.
+use Prim.Native.Nat.{ℕ}
+use mathlib.Core.Path.{_≡_, refl, sym, ap, _∙_}
+use mathlib.Core.Bool.{Bool, true, false}
+use mathlib.Core.List.{List, [], _∷_, List·Memᴰ, List·Memᴰ·head, List·Memᴰ·tail}
+use Rattle.model.specs.declared.Connection.{Connection}
+use Rattle.model.specs.declared.Direction.{Direction}
+use Rattle.model.specs.declared.Direction.the-variants.{Forward, Backward}
+use Rattle.model.specs.declared.Justification.{Justification}
+use Rattle.model.specs.declared.Justification.the-variants.{Rule as byRule, Congruence}
+use Rattle.model.specs.declared.RuleNo.{RuleNo}
+use Rattle.model.specs.Term.{Mark, unmarked, forward, backward, Terms, noTerms, tree, join, one, strip}
+use Rattle.model.specs.Rule.{Rule}
+use Rattle.model.specs.Step.{ByRule, Step}
+use Rattle.model.specs.Node.{Node, opOf, kidsOf, row, termOf}
+use Rattle.model.specs.Forest.{cur, nxt, root}
+use Rattle.model.specs.Flat.{markFor, markedTerm, within, runs, appended, laterStep, later}
+use Rattle.forest.specs.Hangs.{Accepted, Paired}
+use Rattle.forest.proofs.Accept.{sound, accepted-loose}
+use Rattle.writer.specs.Marks.{marks}
+use Rattle.writer.specs.Ends.{lastOr}
+use Rattle.writer.specs.Below.{Below}
+use Rattle.writer.specs.Instances.{InstanceBy, Instances}
+use Rattle.writer.proofs.NodeTerms.{term-op, terms-unmarked, term-is}
+use Rattle.writer.proofs.Within.{last-join, last-alike}
+use Rattle.writer.proofs.Twins.{Twins, twins-turned, supported-twins}
+use Rattle.writer.proofs.Appended.{Known, after-run, held-unmarked, appended-arrive}
+use Rattle.writer.proofs.Walked.{AllGive, walked}
+use Rattle.writer.proofs.Stepping.{by-rule-alike, Stepping, stepping-alike, stepping-join, stepping-within}
+
+-- a connection's instance, walked up from a to b or down from a to b
+abbrev Walked : List Rule → List Node → Justification → Bool → ℕ → ℕ → Type 0
+Walked rs ns w true a b = InstanceBy rs ns w a b
+Walked rs ns w false a b = InstanceBy rs ns w b a
+
+module _ (rs : List Rule) (ns : List Node) where
+  -- "marked at its root": the mark plays no part in the instance
+  marked-alike : (m : Mark) (b : ℕ) → strip (one (termOf ns b)) ≡ strip (markedTerm ns m b)
+  unfolding strip
+  marked-alike m b = ap (λ o. tree o unmarked (strip (termOf ns b .kids)) noTerms) (term-op ns b)
+
+  marked-step : (n : RuleNo) (d : Direction) (up : Bool) (a b : ℕ) → Walked rs ns (byRule n d) up a b →
+      Step rs (one (termOf ns a)) (markedTerm ns (markFor (n .0) d up) b)
+  unfolding Step
+  marked-step n Forward true a b i = (by-rule-alike rs (n .0) _ _ _ _ refl (marked-alike (forward (n .0)) b) i, tt)
+  marked-step n Forward false a b i = (by-rule-alike rs (n .0) _ _ _ _ (marked-alike (backward (n .0)) b) refl i, tt)
+  marked-step n Backward true a b i = (by-rule-alike rs (n .0) _ _ _ _ (marked-alike (backward (n .0)) b) refl i, tt)
+  marked-step n Backward false a b i = (by-rule-alike rs (n .0) _ _ _ _ refl (marked-alike (forward (n .0)) b) i, tt)
+
+  -- the later terms f lead from node l to node r, each one step from the one before
+  pub record StepWay (l r : ℕ) (f : Terms) : Type 0 where
+    pub arrives : strip (lastOr (one (termOf ns l)) f) ≡ strip (one (termOf ns r))
+    pub steps : Stepping rs (one (termOf ns l)) f
+
+  abbrev Both : ℕ → ℕ → Terms → Terms → Type 0
+  Both l r f g = StepWay l r f
+
+  none : (n : ℕ) → Both n n noTerms noTerms
+  unfolding lastOr Stepping
+  none n = record { arrives = refl; steps = tt }
+
+  two : (l m r : ℕ) (f f′ g g′ : Terms) → Both l m f g → Both m r f′ g′ → Both l r (join f f′) (join g g′)
+  two l m r f f′ g g′ v w =
+      let from = one (termOf ns l) in
+      record {
+        arrives = ap strip (last-join from f f′) ∙ last-alike (lastOr from f) (one (termOf ns m)) f′ (v .arrives) ∙ w .arrives;
+        steps =
+            stepping-join rs from f f′ (v .steps)
+            (stepping-alike rs (one (termOf ns m)) (lastOr from f) f′ (sym (v .arrives)) (w .steps));
+      }
+
+  module _ (cs : List Connection) (proof : ℕ → ℕ → Terms) (known : (x y : ℕ) → root cs x ≡ root cs y → StepWay x y (proof x y)) where
+    runs-step : (o : ℕ) (before : Terms) → marks before ≡ 0 → (xs ys : List ℕ) → Paired cs xs ys → (t : Terms) →
+        strip t ≡ strip (tree o unmarked (join before (row (termOf ns) xs)) noTerms) → Stepping rs t (runs ns proof o before xs ys)
+    unfolding runs Stepping row within
+    runs-step o before e [] ys p t q = tt
+    runs-step o before e (x ∷ xs) [] p t q = tt
+    runs-step o before e (x ∷ xs) (y ∷ ys) p t q =
+        let w = known x y (p .0) in
+        let behind = row (termOf ns) xs in
+        let from = one (termOf ns x) in
+        let run = within o before behind (proof x y) in
+        stepping-join rs t run (runs ns proof o (join before (one (termOf ns y))) xs ys)
+        (stepping-alike rs (within o before behind from) t run (sym q)
+        (stepping-within rs o before behind e (terms-unmarked ns xs) (termOf ns x .op) (termOf ns x .mark) (termOf ns x .kids) (proof x y) (w .steps)))
+        (runs-step o (join before (one (termOf ns y))) (held-unmarked ns cs proof before e y) xs ys (p .1) (lastOr t run)
+        (after-run ns cs proof o before e x y xs (proof x y) t (w .arrives) q))
+
+    appended-step : Below ns → (w : Justification) (up : Bool) (a b : ℕ) → (w ≡ Congruence → Twins ns cs a b) → Walked rs ns w up a b →
+        Stepping rs (one (termOf ns a)) (appended ns proof w up a b)
+    unfolding appended Stepping join marks
+    appended-step below (byRule n d) up a b s i = (marked-step n d up a b i, tt)
+    appended-step below Congruence up a b s i =
+        runs-step (opOf ns a) noTerms refl (kidsOf ns a) (kidsOf ns b) (s refl .kids) (one (termOf ns a))
+        (ap (λ t. strip (one t)) (term-is ns below a))
+
+  module _ (below : Below ns) where
+    all-step : (cs : List Connection) → Accepted ns cs → Instances rs ns cs → AllGive noTerms join (laterStep ns) noTerms join (laterStep ns) Both none two cs
+    unfolding later
+    all-step [] a i = tt
+    all-step (c ∷ cs) a i = (
+      λ known.
+          let t = supported-twins (c .why) (cur c) (nxt c) (sound (a .0) .support) in
+          let here = i .each c (List·Memᴰ·head refl) in
+          let own : (up : Bool) (x y : ℕ) → (c .why ≡ Congruence → Twins ns cs x y) → Walked rs ns (c .why) up x y → StepWay x y (appended ns (later ns cs) (c .why) up x y) =
+          λ up x y s j. record {
+            arrives = appended-arrive ns cs (later ns cs) below (λ x y j. known x y j .arrives) (c .why) up x y s;
+            steps = appended-step cs (later ns cs) known below (c .why) up x y s j;
+          } in
+          record { up = own true (cur c) (nxt c) t here; down = own false (nxt c) (cur c) (λ e. twins-turned (t e)) here },
+      all-step cs (a .1) (record { each = λ d m. i .each d (List·Memᴰ·tail m) }),
+    )
+
+    pub step-way : (cs : List Connection) → Accepted ns cs → Instances rs ns cs → (l r : ℕ) → root cs l ≡ root cs r → StepWay l r (later ns cs l r)
+    unfolding later
+    step-way cs a i = walked noTerms join (laterStep ns) noTerms join (laterStep ns) Both none two cs (accepted-loose ns cs a) (all-step cs a i)
