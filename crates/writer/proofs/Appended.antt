@@ -1,26 +1,28 @@
 -- What a congruence appends, child by child, and what a connection appends: as many terms as it costs, of the size that needed
 -- words counts, one mark in each, and from the one node's term to the other's.
-use Prim.Native.Nat.{ℕ, zero, suc, _+_, _*_}
+use Prim.Native.Nat.{ℕ, zero, suc, _+_, _*_, _≤_}
 use mathlib.Core.Path.{_≡_, refl, sym, ap, ap₂, _∙_}
 use mathlib.Core.Bool.{Bool, true, false}
 use mathlib.Core.List.{List, [], _∷_}
 use native.Mathlib.Omega.{arith}
+use lib.ListN.{length}
 use Rattle.model.specs.declared.Connection.{Connection}
 use Rattle.model.specs.declared.Direction.{Direction}
 use Rattle.model.specs.declared.Direction.the-variants.{Forward, Backward}
 use Rattle.model.specs.declared.Justification.{Justification}
 use Rattle.model.specs.declared.Justification.the-variants.{Rule as byRule, Congruence}
-use Rattle.model.specs.Term.{Mark, unmarked, Terms, noTerms, tree, count, join, Term, put, one, strip, size}
+use Rattle.model.specs.Term.{Mark, unmarked, Terms, noTerms, tree, count, join, Term, put, one, strip, Narrow, size}
+use Rattle.model.specs.Limits.{childLimit}
 use Rattle.model.specs.Node.{Node, opOf, kidsOf, row, termOf}
 use Rattle.model.specs.Forest.{root, sumPairs, costBy}
 use Rattle.model.specs.Flat.{markFor, markedTerm, within, runs, appended, sum, sizeOf, runsSize, appendedSize}
 use Rattle.forest.specs.Hangs.{Paired}
 use Rattle.writer.specs.Marks.{markCount, marks, OneMarkEach}
 use Rattle.writer.specs.Ends.{lastOr}
-use Rattle.writer.specs.Below.{Below}
-use Rattle.writer.proofs.Rows.{join-assoc, count-join, size-join, marks-join, strip-strip, one-mark-join}
-use Rattle.writer.proofs.NodeTerms.{term-op, term-unmarked, term-strip, term-size, terms-unmarked, terms-size, term-is}
-use Rattle.writer.proofs.Within.{last-join, within-count, within-size, within-one-mark, within-arrives}
+use Rattle.writer.specs.Nodes.{AcceptedNodes}
+use Rattle.writer.proofs.Rows.{narrow-join, join-assoc, count-join, size-join, marks-join, strip-strip, one-mark-join}
+use Rattle.writer.proofs.NodeTerms.{row-count, terms-narrow, term-narrow, term-op, term-unmarked, term-strip, term-size, terms-unmarked, terms-size, term-is}
+use Rattle.writer.proofs.Within.{within-narrow, last-join, within-count, within-size, within-one-mark, within-arrives}
 use Rattle.writer.proofs.Twins.{Twins}
 
 marked : (n : ℕ) (d : Direction) (up : Bool) → markCount (markFor n d up) ≡ 1
@@ -70,6 +72,19 @@ module _ (ns : List Node) (cs : List Connection) (proof : ℕ → ℕ → Terms)
       one-mark-join (within o before (row (termOf ns) xs) (proof x y)) (runs ns proof o next xs ys)
       (within-one-mark o before (row (termOf ns) xs) e (terms-unmarked ns xs) (proof x y) (h x y (p .0)))
       (runs-one-mark h o next (held-unmarked before e y) xs ys (p .1))
+
+  runs-narrow : AcceptedNodes ns → Known (λ x y. Narrow (proof x y)) → (o : ℕ) (before : Terms) → Narrow before → (xs ys : List ℕ) →
+      count before + length xs ≤ childLimit → Paired cs xs ys → Narrow (runs ns proof o before xs ys)
+  unfolding runs Narrow count
+  runs-narrow nodes h o before e [] ys c p = tt
+  runs-narrow nodes h o before e (x ∷ xs) [] c p = tt
+  runs-narrow nodes h o before e (x ∷ xs) (y ∷ ys) c p =
+      let next = join before (one (termOf ns y)) in
+      narrow-join (within o before (row (termOf ns) xs) (proof x y)) (runs ns proof o next xs ys)
+      (within-narrow o before (row (termOf ns) xs) e (terms-narrow ns nodes xs) (omega (arith, row-count (termOf ns) xs)) (proof x y)
+      (h x y (p .0)))
+      (runs-narrow nodes h o next (narrow-join before (one (termOf ns y)) e (term-narrow ns nodes y)) xs ys
+      (omega (arith, count-join before (one (termOf ns y)))) (p .1))
 
   -- after a child's run the node has the new child before those still to come
   pub after-run : (o : ℕ) (before : Terms) → marks before ≡ 0 → (x y : ℕ) (xs : List ℕ) (f t : Terms) →
@@ -122,13 +137,20 @@ module _ (ns : List Node) (cs : List Connection) (proof : ℕ → ℕ → Terms)
   appended-one-mark h Congruence up a b s =
       runs-one-mark h (opOf ns a) noTerms refl (kidsOf ns a) (kidsOf ns b) (s refl .kids)
 
-  pub appended-arrive : Below ns → Known (λ x y. strip (lastOr (one (termOf ns x)) (proof x y)) ≡ strip (one (termOf ns y))) →
+  pub appended-narrow : AcceptedNodes ns → Known (λ x y. Narrow (proof x y)) → (w : Justification) (up : Bool) (a b : ℕ) →
+      Support w a b → Narrow (appended ns proof w up a b)
+  unfolding appended Narrow count
+  appended-narrow nodes h (byRule n f) up a b s = term-narrow ns nodes b
+  appended-narrow nodes h Congruence up a b s =
+      runs-narrow nodes h (opOf ns a) noTerms tt (kidsOf ns a) (kidsOf ns b) (omega (arith, nodes .few a)) (s refl .kids)
+
+  pub appended-arrive : AcceptedNodes ns → Known (λ x y. strip (lastOr (one (termOf ns x)) (proof x y)) ≡ strip (one (termOf ns y))) →
       (w : Justification) (up : Bool) (a b : ℕ) → Support w a b →
       strip (lastOr (one (termOf ns a)) (appended ns proof w up a b)) ≡ strip (one (termOf ns b))
   unfolding appended lastOr strip join marks
-  appended-arrive below h (byRule n f) up a b s = ap (λ o. tree o unmarked (strip (termOf ns b .kids)) noTerms) (sym (term-op ns b))
-  appended-arrive below h Congruence up a b s =
+  appended-arrive nodes h (byRule n f) up a b s = ap (λ o. tree o unmarked (strip (termOf ns b .kids)) noTerms) (sym (term-op ns b))
+  appended-arrive nodes h Congruence up a b s =
       runs-arrive h (opOf ns a) noTerms refl (kidsOf ns a) (kidsOf ns b) (s refl .kids) (one (termOf ns a))
-      (ap (λ t. strip (one t)) (term-is ns below a))
+      (ap (λ t. strip (one t)) (term-is ns nodes a))
       ∙ ap (λ o. strip (tree o unmarked (row (termOf ns) (kidsOf ns b)) noTerms)) (s refl .ops)
-      ∙ ap (λ t. strip (one t)) (sym (term-is ns below b))
+      ∙ ap (λ t. strip (one t)) (sym (term-is ns nodes b))

@@ -11,7 +11,7 @@ use Rattle.model.specs.Forest.{cur, nxt, root, dist}
 use Rattle.model.specs.Flat.{appended, laterStep, later, appendedSize, laterSizeStep, laterSize}
 use Rattle.forest.specs.Hangs.{Accepted}
 use Rattle.forest.proofs.Accept.{sound, accepted-loose}
-use Rattle.writer.specs.Below.{Below}
+use Rattle.writer.specs.Nodes.{AcceptedNodes}
 use Rattle.writer.proofs.Rows.{size-join}
 use Rattle.writer.proofs.Twins.{Twins, twins-turned, supported-twins}
 use Rattle.writer.proofs.Appended.{appended-size}
@@ -29,14 +29,14 @@ sized-none n = refl
 sized-two : (l m r : ℕ) (f g : Terms) (v w : ℕ) → Sized l m f v → Sized m r g w → Sized l r (join f g) (v + w)
 sized-two l m r f g v w p q = size-join f g ∙ ap₂ _+_ p q
 
-module _ (ns : List Node) (below : Below ns) where
+module _ (ns : List Node) (nodes : AcceptedNodes ns) where
   sizes : (cs : List Connection) → Accepted ns cs → AllGive noTerms join (laterStep ns) 0 _+_ (laterSizeStep ns) Sized sized-none sized-two cs
   unfolding later laterSize
   sizes [] a = tt
   sizes (c ∷ cs) a = (
     λ known.
         let t = supported-twins (c .why) (cur c) (nxt c) (sound (a .0) .support) in
-        let counts : (x y : ℕ) → root cs x ≡ root cs y → count (later ns cs x y) ≡ dist ns cs x y = λ x y j. way ns below cs (a .1) x y j .counted in
+        let counts : (x y : ℕ) → root cs x ≡ root cs y → count (later ns cs x y) ≡ dist ns cs x y = λ x y j. way ns nodes cs (a .1) x y j .counted in
         let own : (up : Bool) (x y : ℕ) → (c .why ≡ Congruence → Twins ns cs x y) →
         size (appended ns (later ns cs) (c .why) up x y) ≡ appendedSize ns (dist ns cs) (laterSize ns cs) (c .why) x y =
         appended-size ns cs (later ns cs) (dist ns cs) (laterSize ns cs) counts known (c .why) in

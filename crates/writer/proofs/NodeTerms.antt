@@ -7,11 +7,11 @@ use native.Mathlib.Omega.{arith}
 use borrow.Author.Tests.{ltb-true}
 use lib.Dec.{ltb}
 use lib.ListN.{length}
-use Rattle.model.specs.Term.{Mark, unmarked, Terms, noTerms, tree, count, Term, put, one, strip, stripped, size}
+use Rattle.model.specs.Term.{Mark, unmarked, Terms, noTerms, tree, count, Term, put, one, strip, Narrow, size}
 use Rattle.model.specs.Node.{Node, opOf, kidsOf, allBelow, row, termBy, termOf}
 use Rattle.model.specs.Flat.{sum, sizeBy, sizeOf}
 use Rattle.writer.specs.Marks.{marks}
-use Rattle.writer.specs.Below.{Below}
+use Rattle.writer.specs.Nodes.{AcceptedNodes}
 use Rattle.writer.proofs.Rows.{unmarked-strip}
 
 -- rows made by one function of each number
@@ -25,6 +25,11 @@ module _ (f : ℕ → Term) where
   unfolding size row sum
   row-size g h [] = refl
   row-size g h (n ∷ ns) = omega (arith, h n, row-size g h ns)
+
+  row-narrow : ((n : ℕ) → Narrow (one (f n))) → (ns : List ℕ) → Narrow (row f ns)
+  unfolding Narrow row
+  row-narrow h [] = tt
+  row-narrow h (n ∷ ns) = (h n .0, h n .1, row-narrow h ns)
 
   pub row-count : (ns : List ℕ) → count (row f ns) ≡ length ns
   unfolding count row
@@ -87,7 +92,7 @@ unfolding row allBelow
 none-below f n z [] b = refl
 none-below f n z (k ∷ ks) b = absurd (omega (arith, head-below n k (allBelow n ks) b .0))
 
-module _ (ns : List Node) (below : Below ns) where
+module _ (ns : List Node) (nodes : AcceptedNodes ns) where
   abbrev above : ℕ → Terms → Term
   above n k = record { op = opOf ns n; mark = unmarked; kids = k }
 
@@ -95,14 +100,27 @@ module _ (ns : List Node) (below : Below ns) where
   enough : (d e n : ℕ) → n ≤ d → n ≤ e → termBy ns d n ≡ termBy ns e n
   unfolding termBy
   enough zero zero n p q = refl
-  enough zero (suc e) n p q = ap (above n) (sym (none-below (termBy ns e) n p (kidsOf ns n) (below .each n)))
-  enough (suc d) zero n p q = ap (above n) (none-below (termBy ns d) n q (kidsOf ns n) (below .each n))
+  enough zero (suc e) n p q = ap (above n) (sym (none-below (termBy ns e) n p (kidsOf ns n) (nodes .below n)))
+  enough (suc d) zero n p q = ap (above n) (none-below (termBy ns d) n q (kidsOf ns n) (nodes .below n))
   enough (suc d) (suc e) n p q =
-      ap (above n) (row-same (termBy ns d) (termBy ns e) n (λ k h. enough d e k (omega arith) (omega arith)) (kidsOf ns n) (below .each n))
+      ap (above n) (row-same (termBy ns d) (termBy ns e) n (λ k h. enough d e k (omega arith) (omega arith)) (kidsOf ns n) (nodes .below n))
 
   -- "Its term is the tree read through its children"
   pub term-is : (n : ℕ) → termOf ns n ≡ record { op = opOf ns n; mark = unmarked; kids = row (termOf ns) (kidsOf ns n) }
   unfolding termOf termBy
   term-is n =
       enough n (suc n) n (omega arith) (omega arith)
-      ∙ ap (above n) (row-same (termBy ns n) (termOf ns) n (λ k h. enough n k k (omega arith) (omega arith)) (kidsOf ns n) (below .each n))
+      ∙ ap (above n) (row-same (termBy ns n) (termOf ns) n (λ k h. enough n k k (omega arith) (omega arith)) (kidsOf ns n) (nodes .below n))
+
+  by-narrow : (d n : ℕ) → Narrow (one (termBy ns d n))
+  unfolding Narrow termBy count
+  by-narrow zero n = (omega arith, tt, tt)
+  by-narrow (suc d) n =
+      (omega (arith, row-count (termBy ns d) (kidsOf ns n), nodes .few n), row-narrow (termBy ns d) (by-narrow d) (kidsOf ns n), tt)
+
+  pub term-narrow : (n : ℕ) → Narrow (one (termOf ns n))
+  unfolding termOf
+  term-narrow n = by-narrow n n
+
+  pub terms-narrow : (ks : List ℕ) → Narrow (row (termOf ns) ks)
+  terms-narrow ks = row-narrow (termOf ns) term-narrow ks

@@ -4,7 +4,7 @@ use mathlib.Core.Path.{_≡_, refl, sym, ap, ap₂, _∙_}
 use mathlib.Core.List.{List, [], _∷_, _++_}
 use native.Mathlib.Omega.{arith}
 use lib.ListN.{length, length-append}
-use Rattle.model.specs.Term.{Mark, unmarked, forward, backward, Terms, noTerms, tree, count, join, strip, words, size}
+use Rattle.model.specs.Term.{Mark, unmarked, forward, backward, Terms, noTerms, tree, count, join, strip, Narrow, words, size}
 use Rattle.writer.specs.Marks.{marks, markCount, OneMarkEach}
 
 -- rows behind each other
@@ -42,6 +42,11 @@ pub strip-strip : (f : Terms) → strip (strip f) ≡ strip f
 unfolding strip
 strip-strip noTerms = refl
 strip-strip (tree o m k s) = ap₂ (tree o unmarked) (strip-strip k) (strip-strip s)
+
+pub narrow-join : (f g : Terms) → Narrow f → Narrow g → Narrow (join f g)
+unfolding Narrow join
+narrow-join noTerms g h i = i
+narrow-join (tree o m k s) g h i = (h .0, h .1, narrow-join s g (h .2) i)
 
 -- "four a tree node"
 pub words-size : (f : Terms) → length (words f) ≡ 4 * size f

@@ -20,7 +20,7 @@ use Rattle.forest.specs.Hangs.{Accepted, Paired}
 use Rattle.forest.proofs.Accept.{sound, accepted-loose}
 use Rattle.writer.specs.Marks.{marks}
 use Rattle.writer.specs.Ends.{lastOr}
-use Rattle.writer.specs.Below.{Below}
+use Rattle.writer.specs.Nodes.{AcceptedNodes}
 use Rattle.writer.specs.Instances.{InstanceBy, Instances}
 use Rattle.writer.proofs.NodeTerms.{term-op, terms-unmarked, term-is}
 use Rattle.writer.proofs.Within.{last-join, last-alike}
@@ -87,15 +87,15 @@ module _ (rs : List Rule) (ns : List Node) where
         (runs-step o (join before (one (termOf ns y))) (held-unmarked ns cs proof before e y) xs ys (p .1) (lastOr t run)
         (after-run ns cs proof o before e x y xs (proof x y) t (w .arrives) q))
 
-    appended-step : Below ns → (w : Justification) (up : Bool) (a b : ℕ) → (w ≡ Congruence → Twins ns cs a b) → Walked rs ns w up a b →
+    appended-step : AcceptedNodes ns → (w : Justification) (up : Bool) (a b : ℕ) → (w ≡ Congruence → Twins ns cs a b) → Walked rs ns w up a b →
         Stepping rs (one (termOf ns a)) (appended ns proof w up a b)
     unfolding appended Stepping join marks
-    appended-step below (byRule n d) up a b s i = (marked-step n d up a b i, tt)
-    appended-step below Congruence up a b s i =
+    appended-step nodes (byRule n d) up a b s i = (marked-step n d up a b i, tt)
+    appended-step nodes Congruence up a b s i =
         runs-step (opOf ns a) noTerms refl (kidsOf ns a) (kidsOf ns b) (s refl .kids) (one (termOf ns a))
-        (ap (λ t. strip (one t)) (term-is ns below a))
+        (ap (λ t. strip (one t)) (term-is ns nodes a))
 
-  module _ (below : Below ns) where
+  module _ (nodes : AcceptedNodes ns) where
     all-step : (cs : List Connection) → Accepted ns cs → Instances rs ns cs → AllGive noTerms join (laterStep ns) noTerms join (laterStep ns) Both none two cs
     unfolding later
     all-step [] a i = tt
@@ -105,8 +105,8 @@ module _ (rs : List Rule) (ns : List Node) where
           let here = i .each c (List·Memᴰ·head refl) in
           let own : (up : Bool) (x y : ℕ) → (c .why ≡ Congruence → Twins ns cs x y) → Walked rs ns (c .why) up x y → StepWay x y (appended ns (later ns cs) (c .why) up x y) =
           λ up x y s j. record {
-            arrives = appended-arrive ns cs (later ns cs) below (λ x y j. known x y j .arrives) (c .why) up x y s;
-            steps = appended-step cs (later ns cs) known below (c .why) up x y s j;
+            arrives = appended-arrive ns cs (later ns cs) nodes (λ x y j. known x y j .arrives) (c .why) up x y s;
+            steps = appended-step cs (later ns cs) known nodes (c .why) up x y s j;
           } in
           record { up = own true (cur c) (nxt c) t here; down = own false (nxt c) (cur c) (λ e. twins-turned (t e)) here },
       all-step cs (a .1) (record { each = λ d m. i .each d (List·Memᴰ·tail m) }),

@@ -1,5 +1,5 @@
 -- The later terms between two joined nodes: as many as the distance, one mark in each, and from the left node's term to the
--- right node's. Node tables have each child below its node, and the connections are accepted.
+-- right node's. Both tables are accepted.
 use Prim.Native.Nat.{ℕ, zero, suc, _+_}
 use mathlib.Core.Path.{_≡_, refl, sym, ap, ap₂, subst, _∙_}
 use mathlib.Core.Bool.{Bool, true, false}
@@ -8,7 +8,7 @@ use native.Mathlib.Omega.{arith}
 use Rattle.model.specs.declared.Connection.{Connection}
 use Rattle.model.specs.declared.Justification.{Justification}
 use Rattle.model.specs.declared.Justification.the-variants.{Rule as byRule, Congruence}
-use Rattle.model.specs.Term.{Terms, noTerms, count, join, one, strip}
+use Rattle.model.specs.Term.{Terms, noTerms, count, join, one, strip, Narrow}
 use Rattle.model.specs.Node.{Node, kidsOf, termOf}
 use Rattle.model.specs.Forest.{cur, nxt, root, sumPairs, costBy, dist}
 use Rattle.model.specs.Flat.{appended, laterStep, later}
@@ -17,28 +17,30 @@ use Rattle.forest.proofs.Accept.{sound, accepted-loose}
 use Rattle.forest.proofs.Joined.{dist-sym}
 use Rattle.writer.specs.Marks.{OneMarkEach}
 use Rattle.writer.specs.Ends.{lastOr}
-use Rattle.writer.specs.Below.{Below}
-use Rattle.writer.proofs.Rows.{count-join, one-mark-join}
+use Rattle.writer.specs.Nodes.{AcceptedNodes}
+use Rattle.writer.proofs.Rows.{narrow-join, count-join, one-mark-join}
 use Rattle.writer.proofs.Within.{last-join, last-alike}
 use Rattle.writer.proofs.Twins.{Twins, twins-turned, supported-twins}
-use Rattle.writer.proofs.Appended.{appended-count, appended-one-mark, appended-arrive}
+use Rattle.writer.proofs.Appended.{appended-narrow, appended-count, appended-one-mark, appended-arrive}
 use Rattle.writer.proofs.Walked.{Gives, AllGive, walked}
 
 -- the later terms f lead from node l to node r, in d steps
 pub record Way (ns : List Node) (l r : ℕ) (f : Terms) (d : ℕ) : Type 0 where
   pub counted : count f ≡ d
+  pub narrow : Narrow f
   pub marked : OneMarkEach f
   pub arrives : strip (lastOr (one (termOf ns l)) f) ≡ strip (one (termOf ns r))
 
 module _ (ns : List Node) where
   pub way-none : (n : ℕ) → Way ns n n noTerms 0
-  unfolding count OneMarkEach lastOr
-  way-none n = record { counted = refl; marked = tt; arrives = refl }
+  unfolding count Narrow OneMarkEach lastOr
+  way-none n = record { counted = refl; narrow = tt; marked = tt; arrives = refl }
 
   pub way-two : (l m r : ℕ) (f g : Terms) (d e : ℕ) → Way ns l m f d → Way ns m r g e → Way ns l r (join f g) (d + e)
   way-two l m r f g d e v w =
       record {
         counted = count-join f g ∙ ap₂ _+_ (v .counted) (w .counted);
+        narrow = narrow-join f g (v .narrow) (w .narrow);
         marked = one-mark-join f g (v .marked) (w .marked);
         arrives =
             ap strip (last-join (one (termOf ns l)) f g)
@@ -63,26 +65,27 @@ module _ (ns : List Node) where
   abbrev cost : List Connection → (ℕ → ℕ → ℕ) → Connection → Bool → ℕ
   cost _ d c u = costBy ns d (c .why) (cur c) (nxt c)
 
-  ways : Below ns → (cs : List Connection) → Accepted ns cs → AllGive noTerms join (laterStep ns) 0 _+_ cost (Way ns) way-none way-two cs
+  ways : AcceptedNodes ns → (cs : List Connection) → Accepted ns cs → AllGive noTerms join (laterStep ns) 0 _+_ cost (Way ns) way-none way-two cs
   unfolding later dist
-  ways below [] a = tt
-  ways below (c ∷ cs) a = (
+  ways nodes [] a = tt
+  ways nodes (c ∷ cs) a = (
     λ known.
         let t = supported-twins (c .why) (cur c) (nxt c) (sound (a .0) .support) in
         let counts : (x y : ℕ) → root cs x ≡ root cs y → count (later ns cs x y) ≡ dist ns cs x y = λ x y j. known x y j .counted in
         let own : (up : Bool) (x y : ℕ) → (c .why ≡ Congruence → Twins ns cs x y) → Way ns x y (appended ns (later ns cs) (c .why) up x y) (costBy ns (dist ns cs) (c .why) x y) =
         λ up x y s. record {
           counted = appended-count ns cs (later ns cs) (dist ns cs) counts (c .why) up x y s;
+          narrow = appended-narrow ns cs (later ns cs) nodes (λ x y j. known x y j .narrow) (c .why) up x y s;
           marked = appended-one-mark ns cs (later ns cs) (λ x y j. known x y j .marked) (c .why) up x y s;
-          arrives = appended-arrive ns cs (later ns cs) below (λ x y j. known x y j .arrives) (c .why) up x y s;
+          arrives = appended-arrive ns cs (later ns cs) nodes (λ x y j. known x y j .arrives) (c .why) up x y s;
         } in
         record {
           up = own true (cur c) (nxt c) t;
           down = subst (Way ns (nxt c) (cur c) _) (cost-turned cs (c .why) (cur c) (nxt c) (accepted-loose ns cs (a .1)) t) (own false (nxt c) (cur c) (λ e. twins-turned (t e)));
         },
-    ways below cs (a .1),
+    ways nodes cs (a .1),
   )
 
-  pub way : Below ns → (cs : List Connection) → Accepted ns cs → (l r : ℕ) → root cs l ≡ root cs r → Way ns l r (later ns cs l r) (dist ns cs l r)
+  pub way : AcceptedNodes ns → (cs : List Connection) → Accepted ns cs → (l r : ℕ) → root cs l ≡ root cs r → Way ns l r (later ns cs l r) (dist ns cs l r)
   unfolding later dist
-  way below cs a l r j = walked noTerms join (laterStep ns) 0 _+_ cost (Way ns) way-none way-two cs (accepted-loose ns cs a) (ways below cs a) l r j
+  way nodes cs a l r j = walked noTerms join (laterStep ns) 0 _+_ cost (Way ns) way-none way-two cs (accepted-loose ns cs a) (ways nodes cs a) l r j

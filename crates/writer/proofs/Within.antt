@@ -1,13 +1,14 @@
 -- Laws of a child's run within its node, the other children held: each of its terms becomes one term, by what is held larger,
 -- with the same marks, and the last becomes the last.
-use Prim.Native.Nat.{ℕ, zero, suc, _+_, _*_}
+use Prim.Native.Nat.{ℕ, zero, suc, _+_, _*_, _≤_}
 use mathlib.Core.Path.{_≡_, refl, sym, ap, ap₂, _∙_}
 use native.Mathlib.Omega.{arith}
-use Rattle.model.specs.Term.{Mark, unmarked, Terms, noTerms, tree, count, join, strip, size}
+use Rattle.model.specs.Term.{Mark, unmarked, Terms, noTerms, tree, count, join, strip, Narrow, size}
+use Rattle.model.specs.Limits.{childLimit}
 use Rattle.model.specs.Flat.{within}
 use Rattle.writer.specs.Marks.{marks, OneMarkEach}
 use Rattle.writer.specs.Ends.{lastOr}
-use Rattle.writer.proofs.Rows.{size-join, marks-join, strip-join, unmarked-strip}
+use Rattle.writer.proofs.Rows.{count-join, narrow-join, size-join, marks-join, strip-join, unmarked-strip}
 
 -- the last term of two rows, of rows that are alike but for marks
 pub last-join : (t f g : Terms) → lastOr t (join f g) ≡ lastOr (lastOr t f) g
@@ -36,6 +37,13 @@ module _ (o : ℕ) (before behind : Terms) where
   unfolding lastOr within
   within-last t noTerms = refl
   within-last t (tree p m k s) = within-last (tree p m k noTerms) s
+
+  pub within-narrow : Narrow before → Narrow behind → suc (count before + count behind) ≤ childLimit → (f : Terms) → Narrow f →
+      Narrow (within o before behind f)
+  unfolding Narrow count within
+  within-narrow b h c noTerms e = tt
+  within-narrow b h c (tree p m k s) e =
+      (omega (arith, count-join before (tree p m k behind)), narrow-join before (tree p m k behind) b (e .0, e .1, h), within-narrow b h c s (e .2))
 
   pub within-one-mark : marks before ≡ 0 → marks behind ≡ 0 → (f : Terms) → OneMarkEach f →
       OneMarkEach (within o before behind f)

@@ -1,4 +1,4 @@
 pub mod Marks
 pub mod Ends
-pub mod Below
+pub mod Nodes
 pub mod Instances
