@@ -1,0 +1,77 @@
+-- What stands at a place of the words: a node, a term, a row of terms.
+-- Assumes nothing.
+use Prim.Native.Nat.{ℕ, _+_, _≤_}
+use mathlib.Core.List.{List, _++_}
+use mathlib.Core.Bool.{Bool, true, false, _&&_}
+use mathlib.Core.Option.{Option, none, some}
+use mathlib.Core.Path.{_≡_}
+use lib.ListN.{length, getD, drop}
+use lib.Seq.{slice}
+use lib.Dec.{leb, eqb}
+use Rattle.model.specs.Limits.{childLimit}
+use Rattle.model.specs.Term.{Mark, Terms, Term, count, one, stripped, Narrow, words, markOf, sameOp}
+use Rattle.terms.specs.declared.Node.{Node}
+use Rattle.terms.specs.declared.End.{End}
+use Rattle.terms.specs.declared.End.the-variants.{At, Broken}
+
+-- the four words at a place
+abbrev pub nodeOf : List ℕ → ℕ → Node
+nodeOf ws at = record {
+  op = record { 0 = getD ws at 0 };
+  count = getD ws (at + 1) 0;
+  mark = getD ws (at + 2) 0;
+  rule = record { 0 = getD ws (at + 3) 0 };
+}
+
+-- "count above 8, mark above 2, unmarked node with a rule": none of these
+abbrev pub isMark : Option Mark → Bool
+isMark none = false
+isMark (some m) = true
+
+abbrev pub okWords : ℕ → ℕ → ℕ → Bool
+okWords c m r = leb c childLimit && isMark (markOf m r)
+
+abbrev pub okNode : Node → Bool
+okNode n = okWords (n .count) (n .mark) (n .rule .0)
+
+-- "operator and count agree"
+abbrev pub sameHead : Node → Node → Bool
+sameHead x y = sameOp (x .op .0) (y .op .0) && eqb (x .count) (y .count)
+
+-- the words from `at` up to e are those of the one term t
+pub record TermAt (ws : List ℕ) (at e : ℕ) (t : Term) : Type 0 where
+  pub narrow : Narrow (one t)
+  pub within : e ≤ length ws
+  pub spelled : slice at e ws ≡ words (one t)
+
+-- the words from `at` on begin with those of the n terms f
+pub record RowAt (ws : List ℕ) (at n : ℕ) (f : Terms) : Type 0 where
+  pub narrow : Narrow f
+  pub counted : count f ≡ n
+  pub rest : List ℕ
+  pub spelled : drop at ws ≡ words f ++ rest
+
+-- some term stands at `at`; and it ends at e
+pub record Well (ws : List ℕ) (at : ℕ) : Type 0 where
+  pub end : ℕ
+  pub term : Term
+  pub is : TermAt ws at end term
+
+pub record EndsAt (ws : List ℕ) (at e : ℕ) : Type 0 where
+  pub term : Term
+  pub is : TermAt ws at e term
+
+-- where the term at `at` ends: at e, or nowhere, since there is none
+abbrev pub EndIs : List ℕ → ℕ → End → Type 0
+EndIs ws at (At e) = EndsAt ws at e
+EndIs ws at Broken = (e : ℕ) (t : Term) → TermAt ws at e t → ⊥
+
+-- r answers whether P holds
+abbrev pub Decides : Bool → Type 0 → Type 0
+Decides true P = P
+Decides false P = P → ⊥
+
+-- r says whether the terms at a and b are equal, their marks aside
+abbrev pub SameIs : List ℕ → ℕ → ℕ → Bool → Type 0
+SameIs ws a b r =
+    (e e′ : ℕ) (t u : Term) → TermAt ws a e t → TermAt ws b e′ u → Decides r (stripped t ≡ stripped u)

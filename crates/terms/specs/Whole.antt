@@ -1,0 +1,11 @@
+-- What `whole_terms` answers.
+-- Assumes nothing.
+use mathlib.Core.Option.{Option, none, some}
+use Rattle.model.specs.Term.{Terms, count}
+use Rattle.terms.specs.declared.Whole.{Whole}
+use Rattle.terms.specs.declared.Whole.the-variants.{Count, Broken}
+
+-- how many terms were read, if they were
+abbrev pub wholeOf : Option Terms → Whole
+wholeOf none = Broken
+wholeOf (some f) = Count (count f)

@@ -1,0 +1,158 @@
+// Flat terms: four words a node in preorder, which are its operator, child count, mark and rule. Terms can be very deep, so
+// they are walked flat, by a pending count: how many terms are still to be read.
+use model::OpNo;
+use model::RuleNo;
+ghost use mathlib.Core.Path.{_≡_};
+ghost use Prim.Native.Nat.{_+_, _≤_};
+ghost use lib.ListN.{length};
+ghost use Rattle.model.specs.Term.{sameOp, read};
+ghost use Rattle.terms.specs.Place.{nodeOf, okNode, sameHead, Well, EndIs, EndsAt, SameIs};
+ghost use Rattle.terms.specs.Whole.{wholeOf};
+
+// A node's four words.
+pub struct Node {
+    pub op: OpNo,
+    pub count: u16,
+    pub mark: u16,
+    pub rule: RuleNo,
+}
+
+// Where a term ends.
+pub enum End {
+    At(usize),
+    Broken,
+}
+
+// How many terms words are.
+pub enum Whole {
+    Count(usize),
+    Broken,
+}
+
+// A word as a count of terms.
+pub fn wide(x: u16) -> usize
+    ensures { λ r. ⌜ r ≡ x ⌝ }
+{
+    x as usize
+}
+
+// The one place where a node's words are read.
+pub fn node_at(words: &[u16], at: usize) -> Node
+    requires { ⌜ at + 4 ≤ length (now words) ⌝ }
+    ensures { λ r. ⌜ r ≡ nodeOf (now (words .entry)) at ⌝ }
+{
+    Node {
+        op: OpNo(words[at]),
+        count: words[at + 1],
+        mark: words[at + 2],
+        rule: RuleNo(words[at + 3]),
+    }
+}
+
+// Whether a node's count and mark are in their sets, and no rule stands at an unmarked one.
+pub fn node_ok(n: Node) -> bool
+    ensures { λ r. ⌜ r ≡ okNode n ⌝ }
+{
+    if n.count > 8 {
+        return false;
+    }
+    let mark = n.mark;
+    match mark {
+        0 => n.rule.0 == 0,
+        1 | 2 => true,
+        _ => false,
+    }
+}
+
+// What makes two nodes the same operator.
+pub fn same_op(a: OpNo, b: OpNo) -> bool
+    ensures { λ r. ⌜ r ≡ sameOp (a .0) (b .0) ⌝ }
+{
+    a.0 == b.0
+}
+
+// Whether two nodes agree in operator and count.
+pub fn same_head(x: Node, y: Node) -> bool
+    ensures { λ r. ⌜ r ≡ sameHead x y ⌝ }
+{
+    if !same_op(x.op, y.op) {
+        return false;
+    }
+    x.count == y.count
+}
+
+// Where the term at `at` ends, on any words: each node read takes one from the terms still to be read, and adds its children.
+pub fn subterm_end(words: &[u16], at: usize) -> End
+    ensures { λ r. ⌜ EndIs (now (words .entry)) at r ⌝ }
+{
+    let len = words.len();
+    if len < at {
+        return End::Broken;
+    }
+    let mut pos = at;
+    let mut pending: usize = 1;
+    while 0 < pending {
+        if len - pos < 4 {
+            return End::Broken;
+        }
+        let n = node_at(words, pos);
+        if !node_ok(n) {
+            return End::Broken;
+        }
+        pending = pending - 1 + wide(n.count);
+        pos += 4;
+    }
+    End::At(pos)
+}
+
+// Where a term that is known to be there ends.
+pub fn end_of(words: &[u16], at: usize) -> usize
+    requires { ⌜ Well (now words) at ⌝ }
+    ensures { λ r. ⌜ EndsAt (now (words .entry)) at r ⌝ }
+{
+    let found = subterm_end(words, at);
+    match found {
+        End::At(e) => e,
+        End::Broken => at,
+    }
+}
+
+// Whether the terms at `a` and `b` are equal, their marks aside: both are walked at once.
+pub fn same_term(words: &[u16], a: usize, b: usize) -> bool
+    requires { ⌜ Well (now words) a ⌝ }
+    requires { ⌜ Well (now words) b ⌝ }
+    ensures { λ r. ⌜ SameIs (now (words .entry)) a b r ⌝ }
+{
+    let mut i = a;
+    let mut j = b;
+    let mut pending: usize = 1;
+    while 0 < pending {
+        let x = node_at(words, i);
+        let y = node_at(words, j);
+        if !same_head(x, y) {
+            return false;
+        }
+        pending = pending - 1 + wide(x.count);
+        i += 4;
+        j += 4;
+    }
+    true
+}
+
+// How many terms the words are, one behind the other, if they are a whole number.
+pub fn whole_terms(words: &[u16]) -> Whole
+    ensures { λ r. ⌜ r ≡ wholeOf (read (now (words .entry))) ⌝ }
+{
+    let len = words.len();
+    let mut pos: usize = 0;
+    let mut n: usize = 0;
+    while pos < len {
+        let found = subterm_end(words, pos);
+        let End::At(e) = found else {
+            return Whole::Broken;
+        };
+        pos = e;
+        n += 1;
+    }
+    Whole::Count(n)
+}
