@@ -4,11 +4,13 @@ pub mod Term
 pub mod Pattern
 pub mod Rule
 pub mod Step
+pub mod Book
 pub mod Verdict
 pub mod Node
 pub mod Forest
 pub mod Connect
 pub mod Flat
+pub mod Premise
 pub mod Query
 pub mod Text
 pub mod Tables

@@ -1,0 +1,5 @@
+pub mod Fits
+pub mod Steps
+pub mod Verdicts
+pub mod DemandTwo
+pub mod Book

@@ -1,0 +1,101 @@
+-- The computed step is the declared one: `step` holds exactly where `Step` does.
+use Prim.Native.Nat.{ℕ}
+use mathlib.Core.Bool.{Bool, true, false, not, _&&_, _||_, true≢false}
+use mathlib.Core.List.{List}
+use mathlib.Core.Option.{Option, none, some}
+use mathlib.Core.Path.{_≡_, refl, sym, _∙_, ap, subst}
+use native.Mathlib.Omega.{arith}
+use borrow.Author.Tests.{eqb-true, eq-eqb}
+use Rattle.model.specs.Term.{Mark, unmarked, forward, backward, Terms, noTerms, tree}
+use Rattle.model.specs.Rule.{Rule, listed, isListed}
+use Rattle.model.specs.Step.{ByRule, Allowed, Step, fitsRule, allowed, step, isForward, isBackward, isMark, someMark, nestedIn, nested, namesUnlisted, unlisted}
+use Rattle.checker.proofs.Fits.{fits-instance, instance-fits}
+
+-- both parts of a conjunction
+both : (a b : Bool) → (a && b) ≡ true → (a ≡ true) × (b ≡ true)
+both true b h = (refl, h)
+both false b h = absurd (true≢false (sym h))
+
+and : {a b : Bool} → a ≡ true → b ≡ true → (a && b) ≡ true
+and p q = cc
+
+fits-rule : (rs : List Rule) (n : ℕ) (o : Option Rule) (s t : Terms) → listed rs n ≡ o → fitsRule o s t ≡ true → ByRule rs n s t
+fits-rule rs n none s t e h = absurd (true≢false (sym h))
+fits-rule rs n (some r) s t e h = record { rule = r; isIn = e; fit = fits-instance (r .left) (r .right) s t h }
+
+rule-fits : (rs : List Rule) (n : ℕ) (s t : Terms) → ByRule rs n s t → fitsRule (listed rs n) s t ≡ true
+rule-fits rs n s t b =
+    ap (λ (o : Option Rule). fitsRule o s t) (b .isIn) ∙ instance-fits (b .rule .left) (b .rule .right) s t (b .fit)
+
+pub allowed-sound : (rs : List Rule) (m : Mark) (s t : Terms) → allowed rs m s t ≡ true → Allowed rs m s t
+unfolding allowed
+allowed-sound rs unmarked s t h = absurd (true≢false (sym h))
+allowed-sound rs (forward n) s t h = fits-rule rs n (listed rs n) s t refl h
+allowed-sound rs (backward n) s t h = fits-rule rs n (listed rs n) t s refl h
+
+pub allowed-complete : (rs : List Rule) (m : Mark) (s t : Terms) → Allowed rs m s t → allowed rs m s t ≡ true
+unfolding allowed
+allowed-complete rs unmarked s t h = absurd h
+allowed-complete rs (forward n) s t h = rule-fits rs n s t h
+allowed-complete rs (backward n) s t h = rule-fits rs n t s h
+
+pub step-sound : (rs : List Rule) (s t : Terms) → step rs s t ≡ true → Step rs s t
+unfolding step Step
+step-sound rs noTerms noTerms h = tt
+step-sound rs noTerms (tree o m k s) h = true≢false (sym h)
+step-sound rs (tree o m k s) noTerms h = true≢false (sym h)
+step-sound rs (tree o m k s) (tree o′ unmarked k′ s′) h =
+    let (a, b) = both _ _ h in
+    let (c, d) = both _ _ b in
+    (eqb-true o o′ a, step-sound rs k k′ c, step-sound rs s s′ d)
+step-sound rs (tree o m k s) (tree o′ (forward n) k′ s′) h =
+    let (a, b) = both _ _ h in (allowed-sound rs (forward n) _ _ a, step-sound rs s s′ b)
+step-sound rs (tree o m k s) (tree o′ (backward n) k′ s′) h =
+    let (a, b) = both _ _ h in (allowed-sound rs (backward n) _ _ a, step-sound rs s s′ b)
+
+pub step-complete : (rs : List Rule) (s t : Terms) → Step rs s t → step rs s t ≡ true
+unfolding step Step
+step-complete rs noTerms noTerms h = refl
+step-complete rs noTerms (tree o m k s) h = absurd h
+step-complete rs (tree o m k s) noTerms h = absurd h
+step-complete rs (tree o m k s) (tree o′ unmarked k′ s′) h =
+    and (eq-eqb o o′ (h .0)) (and (step-complete rs k k′ (h .1)) (step-complete rs s s′ (h .2)))
+step-complete rs (tree o m k s) (tree o′ (forward n) k′ s′) h =
+    and (allowed-complete rs (forward n) _ _ (h .0)) (step-complete rs s s′ (h .1))
+step-complete rs (tree o m k s) (tree o′ (backward n) k′ s′) h =
+    and (allowed-complete rs (backward n) _ _ (h .0)) (step-complete rs s s′ (h .1))
+
+-- no part of a disjunction
+pub neither : (a b : Bool) → (a || b) ≡ false → (a ≡ false) × (b ≡ false)
+neither true b h = absurd (true≢false h)
+neither false b h = (refl, h)
+
+pub nor : {a b : Bool} → a ≡ false → b ≡ false → (a || b) ≡ false
+nor p q = cc
+
+-- where there is no mark, none names an unlisted rule
+unmarked-listed : (rs : List Rule) (f : Terms) → someMark isMark f ≡ false → someMark (namesUnlisted rs) f ≡ false
+unfolding someMark
+unmarked-listed rs noTerms h = refl
+unmarked-listed rs (tree o unmarked k s) h =
+    let (a, b) = neither _ _ h in nor (unmarked-listed rs k a) (unmarked-listed rs s b)
+unmarked-listed rs (tree o (forward n) k s) h = absurd (true≢false h)
+unmarked-listed rs (tree o (backward n) k s) h = absurd (true≢false h)
+
+by-listed : (rs : List Rule) (n : ℕ) (s t : Terms) → ByRule rs n s t → not (isListed (listed rs n)) ≡ false
+by-listed rs n s t b = ap (λ (o : Option Rule). not (isListed o)) (b .isIn)
+
+-- what steps, with no mark inside another, names listed rules alone: so 16 is never given for it
+pub step-listed : (rs : List Rule) (s t : Terms) → Step rs s t → nested t ≡ false → unlisted rs t ≡ false
+unfolding Step nested unlisted someMark
+step-listed rs noTerms noTerms h e = refl
+step-listed rs noTerms (tree o m k s) h e = absurd h
+step-listed rs (tree o m k s) noTerms h e = absurd h
+step-listed rs (tree o m k s) (tree o′ unmarked k′ s′) h e =
+    let (a, b) = neither _ _ e in nor (step-listed rs k k′ (h .1) a) (step-listed rs s s′ (h .2) b)
+step-listed rs (tree o m k s) (tree o′ (forward n) k′ s′) h e =
+    let (a, b) = neither _ _ e in
+    nor (by-listed rs n _ _ (h .0)) (nor (unmarked-listed rs k′ a) (step-listed rs s s′ (h .1) b))
+step-listed rs (tree o m k s) (tree o′ (backward n) k′ s′) h e =
+    let (a, b) = neither _ _ e in
+    nor (by-listed rs n _ _ (h .0)) (nor (unmarked-listed rs k′ a) (step-listed rs s s′ (h .1) b))
