@@ -1,6 +1,6 @@
 -- What a congruence appends, child by child, and what a connection appends: as many terms as it costs, of the size that needed
 -- words counts, one mark in each, and from the one node's term to the other's.
-use Prim.Native.Nat.{ℕ, zero, suc, _+_, _*_, _≤_}
+use Prim.Native.Nat.{ℕ, suc, _+_, _≤_}
 use mathlib.Core.Path.{_≡_, refl, sym, ap, ap₂, _∙_}
 use mathlib.Core.Bool.{Bool, true, false}
 use mathlib.Core.List.{List, [], _∷_}
@@ -11,17 +11,18 @@ use Rattle.model.specs.declared.Direction.{Direction}
 use Rattle.model.specs.declared.Direction.the-variants.{Forward, Backward}
 use Rattle.model.specs.declared.Justification.{Justification}
 use Rattle.model.specs.declared.Justification.the-variants.{Rule as byRule, Congruence}
-use Rattle.model.specs.Term.{Mark, unmarked, Terms, noTerms, tree, count, join, Term, put, one, strip, Narrow, size}
+use Rattle.model.specs.Term.{unmarked, Terms, noTerms, tree, count, join, one, strip, Narrow, size}
 use Rattle.model.specs.Limits.{childLimit}
 use Rattle.model.specs.Node.{Node, opOf, kidsOf, row, termOf}
 use Rattle.model.specs.Forest.{root, sumPairs, costBy}
-use Rattle.model.specs.Flat.{markFor, markedTerm, within, runs, appended, sum, sizeOf, runsSize, appendedSize}
+use Rattle.model.specs.Flat.{markFor, within, runs, appended, sizeOf, runsSize, appendedSize}
 use Rattle.forest.specs.Hangs.{Paired}
 use Rattle.writer.specs.Marks.{markCount, marks, OneMarkEach}
 use Rattle.writer.specs.Ends.{lastOr}
 use Rattle.writer.specs.Nodes.{AcceptedNodes}
-use Rattle.writer.proofs.Rows.{narrow-join, join-assoc, count-join, size-join, marks-join, strip-strip, one-mark-join}
-use Rattle.writer.proofs.NodeTerms.{row-count, terms-narrow, term-narrow, term-op, term-unmarked, term-strip, term-size, terms-unmarked, terms-size, term-is}
+use Rattle.terms.proofs.Rows.{join-assoc, count-join, narrow-join}
+use Rattle.writer.proofs.Rows.{size-join, marks-join, one-mark-join}
+use Rattle.writer.proofs.NodeTerms.{row-count, terms-narrow, term-narrow, term-op, term-unmarked, term-size, terms-unmarked, terms-size, term-is}
 use Rattle.writer.proofs.Within.{within-narrow, last-join, within-count, within-size, within-one-mark, within-arrives}
 use Rattle.writer.proofs.Twins.{Twins}
 

@@ -9,3 +9,5 @@ pub mod Needed
 pub mod Marked
 pub mod Stepping
 pub mod Steps
+pub mod Tables
+pub mod FlatProof

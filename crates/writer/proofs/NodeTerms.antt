@@ -1,5 +1,5 @@
 -- The term of a node: unmarked, of the size that sizeOf says, and with its children's terms for children.
-use Prim.Native.Nat.{ℕ, zero, suc, _+_, _≤_, _<_}
+use Prim.Native.Nat.{ℕ, zero, suc, _≤_, _<_}
 use mathlib.Core.Path.{_≡_, refl, sym, ap, ap₂, _∙_}
 use mathlib.Core.Bool.{Bool, true, false, _&&_, false≢true}
 use mathlib.Core.List.{List, [], _∷_}
@@ -7,7 +7,7 @@ use native.Mathlib.Omega.{arith}
 use borrow.Author.Tests.{ltb-true}
 use lib.Dec.{ltb}
 use lib.ListN.{length}
-use Rattle.model.specs.Term.{Mark, unmarked, Terms, noTerms, tree, count, Term, put, one, strip, Narrow, size}
+use Rattle.model.specs.Term.{unmarked, Terms, noTerms, count, Term, put, one, strip, Narrow, size}
 use Rattle.model.specs.Node.{Node, opOf, kidsOf, allBelow, row, termBy, termOf}
 use Rattle.model.specs.Flat.{sum, sizeBy, sizeOf}
 use Rattle.writer.specs.Marks.{marks}

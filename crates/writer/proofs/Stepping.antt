@@ -1,13 +1,13 @@
 -- Laws of the checker's step: the earlier term's marks play no part, equal unmarked rows step, and rows step side by side; and
 -- of terms that each step from the one before.
-use Prim.Native.Nat.{ℕ, zero, suc, _+_}
-use mathlib.Core.Path.{_≡_, refl, sym, ap, ap₂, _∙_}
+use Prim.Native.Nat.{ℕ}
+use mathlib.Core.Path.{_≡_, refl, sym, _∙_}
 use mathlib.Core.List.{List}
 use native.Mathlib.Omega.{arith}
 use Rattle.model.specs.Term.{Mark, unmarked, forward, backward, Terms, noTerms, tree, join, strip}
 use Rattle.model.specs.Rule.{Rule}
 use Rattle.model.specs.Step.{ByRule, Step}
-use Rattle.model.specs.Verdict.{Later, Chain}
+use Rattle.model.specs.Verdict.{Chain}
 use Rattle.model.specs.Flat.{within}
 use Rattle.writer.specs.Marks.{marks, OneMarkEach}
 use Rattle.writer.specs.Ends.{lastOr}

@@ -3,7 +3,7 @@
 use Prim.Native.Nat.{ℕ}
 use mathlib.Core.Path.{_≡_, refl, sym, ap, _∙_}
 use mathlib.Core.Bool.{Bool, true, false}
-use mathlib.Core.List.{List, [], _∷_, List·Memᴰ, List·Memᴰ·head, List·Memᴰ·tail}
+use mathlib.Core.List.{List, [], _∷_}
 use Rattle.model.specs.declared.Connection.{Connection}
 use Rattle.model.specs.declared.Direction.{Direction}
 use Rattle.model.specs.declared.Direction.the-variants.{Forward, Backward}
@@ -12,21 +12,21 @@ use Rattle.model.specs.declared.Justification.the-variants.{Rule as byRule, Con
 use Rattle.model.specs.declared.RuleNo.{RuleNo}
 use Rattle.model.specs.Term.{Mark, unmarked, forward, backward, Terms, noTerms, tree, join, one, strip}
 use Rattle.model.specs.Rule.{Rule}
-use Rattle.model.specs.Step.{ByRule, Step}
+use Rattle.model.specs.Step.{Step}
 use Rattle.model.specs.Node.{Node, opOf, kidsOf, row, termOf}
 use Rattle.model.specs.Forest.{cur, nxt, root}
+use Rattle.model.specs.Premise.{InstanceBy, Premise}
 use Rattle.model.specs.Flat.{markFor, markedTerm, within, runs, appended, laterStep, later}
 use Rattle.forest.specs.Hangs.{Accepted, Paired}
-use Rattle.forest.proofs.Accept.{sound, accepted-loose}
+use Rattle.forest.proofs.Accept.{accepted-loose}
 use Rattle.writer.specs.Marks.{marks}
 use Rattle.writer.specs.Ends.{lastOr}
 use Rattle.writer.specs.Nodes.{AcceptedNodes}
-use Rattle.writer.specs.Instances.{InstanceBy, Instances}
 use Rattle.writer.proofs.NodeTerms.{term-op, terms-unmarked, term-is}
 use Rattle.writer.proofs.Within.{last-join, last-alike}
-use Rattle.writer.proofs.Twins.{Twins, twins-turned, supported-twins}
-use Rattle.writer.proofs.Appended.{Known, after-run, held-unmarked, appended-arrive}
-use Rattle.writer.proofs.Walked.{AllGive, walked}
+use Rattle.writer.proofs.Twins.{Twins, twins, twins-back}
+use Rattle.writer.proofs.Appended.{after-run, held-unmarked, appended-arrive}
+use Rattle.writer.proofs.Walked.{walked}
 use Rattle.writer.proofs.Stepping.{by-rule-alike, Stepping, stepping-alike, stepping-join, stepping-within}
 
 -- a connection's instance, walked up from a to b or down from a to b
@@ -95,23 +95,25 @@ module _ (rs : List Rule) (ns : List Node) where
         runs-step (opOf ns a) noTerms refl (kidsOf ns a) (kidsOf ns b) (s refl .kids) (one (termOf ns a))
         (ap (λ t. strip (one t)) (term-is ns nodes a))
 
-  module _ (nodes : AcceptedNodes ns) where
-    all-step : (cs : List Connection) → Accepted ns cs → Instances rs ns cs → AllGive noTerms join (laterStep ns) noTerms join (laterStep ns) Both none two cs
-    unfolding later
-    all-step [] a i = tt
-    all-step (c ∷ cs) a i = (
-      λ known.
-          let t = supported-twins (c .why) (cur c) (nxt c) (sound (a .0) .support) in
-          let here = i .each c (List·Memᴰ·head refl) in
-          let own : (up : Bool) (x y : ℕ) → (c .why ≡ Congruence → Twins ns cs x y) → Walked rs ns (c .why) up x y → StepWay x y (appended ns (later ns cs) (c .why) up x y) =
-          λ up x y s j. record {
-            arrives = appended-arrive ns cs (later ns cs) nodes (λ x y j. known x y j .arrives) (c .why) up x y s;
-            steps = appended-step cs (later ns cs) known nodes (c .why) up x y s j;
-          } in
-          record { up = own true (cur c) (nxt c) t here; down = own false (nxt c) (cur c) (λ e. twins-turned (t e)) here },
-      all-step cs (a .1) (record { each = λ d m. i .each d (List·Memᴰ·tail m) }),
-    )
+  -- accepted connections, each rule connection an instance
+  pub record Sound (cs : List Connection) : Type 0 where
+    pub accepted : Accepted ns cs
+    pub premise : Premise rs ns cs
 
-    pub step-way : (cs : List Connection) → Accepted ns cs → Instances rs ns cs → (l r : ℕ) → root cs l ≡ root cs r → StepWay l r (later ns cs l r)
-    unfolding later
-    step-way cs a i = walked noTerms join (laterStep ns) noTerms join (laterStep ns) Both none two cs (accepted-loose ns cs a) (all-step cs a i)
+  module _ (nodes : AcceptedNodes ns) where
+    own : (c : Connection) (cs : List Connection) → ((x y : ℕ) → root cs x ≡ root cs y → StepWay x y (later ns cs x y)) →
+        (up : Bool) (a b : ℕ) → (c .why ≡ Congruence → Twins ns cs a b) → Walked rs ns (c .why) up a b →
+        StepWay a b (appended ns (later ns cs) (c .why) up a b)
+    own c cs known up a b s i =
+        record {
+          arrives = appended-arrive ns cs (later ns cs) nodes (λ x y j. known x y j .arrives) (c .why) up a b s;
+          steps = appended-step cs (later ns cs) known nodes (c .why) up a b s i;
+        }
+
+    pub step-way : (cs : List Connection) → Sound cs → (l r : ℕ) → root cs l ≡ root cs r → StepWay l r (later ns cs l r)
+    unfolding later Premise
+    step-way =
+        walked noTerms join (laterStep ns) noTerms join (laterStep ns) Both none two Sound
+        (λ c cs s. record { accepted = s .accepted .1; premise = s .premise .1 }) (λ cs s. accepted-loose ns cs (s .accepted))
+        (λ c cs s known. own c cs known true (cur c) (nxt c) (twins (s .accepted)) (s .premise .0))
+        (λ c cs s known. own c cs known false (nxt c) (cur c) (twins-back (s .accepted)) (s .premise .0))

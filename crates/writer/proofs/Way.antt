@@ -1,10 +1,9 @@
 -- The later terms between two joined nodes: as many as the distance, one mark in each, and from the left node's term to the
 -- right node's. Both tables are accepted.
-use Prim.Native.Nat.{ℕ, zero, suc, _+_}
-use mathlib.Core.Path.{_≡_, refl, sym, ap, ap₂, subst, _∙_}
+use Prim.Native.Nat.{ℕ, _+_}
+use mathlib.Core.Path.{_≡_, refl, ap, ap₂, subst, _∙_}
 use mathlib.Core.Bool.{Bool, true, false}
 use mathlib.Core.List.{List, [], _∷_}
-use native.Mathlib.Omega.{arith}
 use Rattle.model.specs.declared.Connection.{Connection}
 use Rattle.model.specs.declared.Justification.{Justification}
 use Rattle.model.specs.declared.Justification.the-variants.{Rule as byRule, Congruence}
@@ -13,16 +12,17 @@ use Rattle.model.specs.Node.{Node, kidsOf, termOf}
 use Rattle.model.specs.Forest.{cur, nxt, root, sumPairs, costBy, dist}
 use Rattle.model.specs.Flat.{appended, laterStep, later}
 use Rattle.forest.specs.Hangs.{Loose, Accepted, Paired}
-use Rattle.forest.proofs.Accept.{sound, accepted-loose}
+use Rattle.forest.proofs.Accept.{accepted-loose}
 use Rattle.forest.proofs.Joined.{dist-sym}
 use Rattle.writer.specs.Marks.{OneMarkEach}
 use Rattle.writer.specs.Ends.{lastOr}
 use Rattle.writer.specs.Nodes.{AcceptedNodes}
-use Rattle.writer.proofs.Rows.{narrow-join, count-join, one-mark-join}
+use Rattle.terms.proofs.Rows.{count-join, narrow-join}
+use Rattle.writer.proofs.Rows.{one-mark-join}
 use Rattle.writer.proofs.Within.{last-join, last-alike}
-use Rattle.writer.proofs.Twins.{Twins, twins-turned, supported-twins}
+use Rattle.writer.proofs.Twins.{Twins, twins, twins-back}
 use Rattle.writer.proofs.Appended.{appended-narrow, appended-count, appended-one-mark, appended-arrive}
-use Rattle.writer.proofs.Walked.{Gives, AllGive, walked}
+use Rattle.writer.proofs.Walked.{walked}
 
 -- the later terms f lead from node l to node r, in d steps
 pub record Way (ns : List Node) (l r : ℕ) (f : Terms) (d : ℕ) : Type 0 where
@@ -65,27 +65,26 @@ module _ (ns : List Node) where
   abbrev cost : List Connection → (ℕ → ℕ → ℕ) → Connection → Bool → ℕ
   cost _ d c u = costBy ns d (c .why) (cur c) (nxt c)
 
-  ways : AcceptedNodes ns → (cs : List Connection) → Accepted ns cs → AllGive noTerms join (laterStep ns) 0 _+_ cost (Way ns) way-none way-two cs
-  unfolding later dist
-  ways nodes [] a = tt
-  ways nodes (c ∷ cs) a = (
-    λ known.
-        let t = supported-twins (c .why) (cur c) (nxt c) (sound (a .0) .support) in
-        let counts : (x y : ℕ) → root cs x ≡ root cs y → count (later ns cs x y) ≡ dist ns cs x y = λ x y j. known x y j .counted in
-        let own : (up : Bool) (x y : ℕ) → (c .why ≡ Congruence → Twins ns cs x y) → Way ns x y (appended ns (later ns cs) (c .why) up x y) (costBy ns (dist ns cs) (c .why) x y) =
-        λ up x y s. record {
-          counted = appended-count ns cs (later ns cs) (dist ns cs) counts (c .why) up x y s;
-          narrow = appended-narrow ns cs (later ns cs) nodes (λ x y j. known x y j .narrow) (c .why) up x y s;
-          marked = appended-one-mark ns cs (later ns cs) (λ x y j. known x y j .marked) (c .why) up x y s;
-          arrives = appended-arrive ns cs (later ns cs) nodes (λ x y j. known x y j .arrives) (c .why) up x y s;
-        } in
-        record {
-          up = own true (cur c) (nxt c) t;
-          down = subst (Way ns (nxt c) (cur c) _) (cost-turned cs (c .why) (cur c) (nxt c) (accepted-loose ns cs (a .1)) t) (own false (nxt c) (cur c) (λ e. twins-turned (t e)));
-        },
-    ways nodes cs (a .1),
-  )
+  module _ (nodes : AcceptedNodes ns) where
+    abbrev Known : List Connection → Type 0
+    Known cs = (x y : ℕ) → root cs x ≡ root cs y → Way ns x y (later ns cs x y) (dist ns cs x y)
 
-  pub way : AcceptedNodes ns → (cs : List Connection) → Accepted ns cs → (l r : ℕ) → root cs l ≡ root cs r → Way ns l r (later ns cs l r) (dist ns cs l r)
-  unfolding later dist
-  way nodes cs a l r j = walked noTerms join (laterStep ns) 0 _+_ cost (Way ns) way-none way-two cs (accepted-loose ns cs a) (ways nodes cs a) l r j
+    own : (c : Connection) (cs : List Connection) → Known cs → (up : Bool) (a b : ℕ) → (c .why ≡ Congruence → Twins ns cs a b) →
+        Way ns a b (appended ns (later ns cs) (c .why) up a b) (costBy ns (dist ns cs) (c .why) a b)
+    own c cs known up a b s =
+        let proof = later ns cs in
+        record {
+          counted = appended-count ns cs proof (dist ns cs) (λ x y j. known x y j .counted) (c .why) up a b s;
+          narrow = appended-narrow ns cs proof nodes (λ x y j. known x y j .narrow) (c .why) up a b s;
+          marked = appended-one-mark ns cs proof (λ x y j. known x y j .marked) (c .why) up a b s;
+          arrives = appended-arrive ns cs proof nodes (λ x y j. known x y j .arrives) (c .why) up a b s;
+        }
+
+    pub way : (cs : List Connection) → Accepted ns cs → Known cs
+    unfolding later dist
+    way =
+        walked noTerms join (laterStep ns) 0 _+_ cost (Way ns) way-none way-two (Accepted ns) (λ c cs a. a .1) (accepted-loose ns)
+        (λ c cs a known. own c cs known true (cur c) (nxt c) (twins a))
+        (λ c cs a known. subst (Way ns (nxt c) (cur c) (appended ns (later ns cs) (c .why) false (nxt c) (cur c)))
+        (cost-turned cs (c .why) (cur c) (nxt c) (accepted-loose ns cs (a .1)) (twins a))
+        (own c cs known false (nxt c) (cur c) (twins-back a)))

@@ -1,14 +1,15 @@
 -- Laws of a child's run within its node, the other children held: each of its terms becomes one term, by what is held larger,
 -- with the same marks, and the last becomes the last.
-use Prim.Native.Nat.{ℕ, zero, suc, _+_, _*_, _≤_}
+use Prim.Native.Nat.{ℕ, suc, _+_, _*_, _≤_}
 use mathlib.Core.Path.{_≡_, refl, sym, ap, ap₂, _∙_}
 use native.Mathlib.Omega.{arith}
-use Rattle.model.specs.Term.{Mark, unmarked, Terms, noTerms, tree, count, join, strip, Narrow, size}
+use Rattle.model.specs.Term.{unmarked, Terms, noTerms, tree, count, join, strip, Narrow, size}
 use Rattle.model.specs.Limits.{childLimit}
 use Rattle.model.specs.Flat.{within}
 use Rattle.writer.specs.Marks.{marks, OneMarkEach}
 use Rattle.writer.specs.Ends.{lastOr}
-use Rattle.writer.proofs.Rows.{count-join, narrow-join, size-join, marks-join, strip-join, unmarked-strip}
+use Rattle.terms.proofs.Rows.{count-join, narrow-join, strip-join}
+use Rattle.writer.proofs.Rows.{size-join, marks-join, unmarked-strip}
 
 -- the last term of two rows, of rows that are alike but for marks
 pub last-join : (t f g : Terms) → lastOr t (join f g) ≡ lastOr (lastOr t f) g

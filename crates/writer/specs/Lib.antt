@@ -1,4 +1,3 @@
 pub mod Marks
 pub mod Ends
 pub mod Nodes
-pub mod Instances
