@@ -1,13 +1,14 @@
 pub mod Rows
 pub mod NodeTerms
-pub mod Walked
 pub mod Within
+pub mod Runs
 pub mod Twins
 pub mod Appended
+pub mod Walked
 pub mod Way
 pub mod Needed
 pub mod Marked
 pub mod Stepping
 pub mod Steps
-pub mod Tables
 pub mod FlatProof
+pub mod Tables

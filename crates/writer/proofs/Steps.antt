@@ -20,12 +20,13 @@ use Rattle.model.specs.Flat.{markFor, markedTerm, within, runs, appended, later
 use Rattle.forest.specs.Hangs.{Accepted, Paired}
 use Rattle.forest.proofs.Accept.{accepted-loose}
 use Rattle.writer.specs.Marks.{marks}
-use Rattle.writer.specs.Ends.{lastOr}
+use Rattle.writer.specs.Ends.{lastOr, Leads}
 use Rattle.writer.specs.Nodes.{AcceptedNodes}
 use Rattle.writer.proofs.NodeTerms.{term-op, terms-unmarked, term-is}
 use Rattle.writer.proofs.Within.{last-join, last-alike}
+use Rattle.writer.proofs.Runs.{Like, after-run, held-unmarked}
 use Rattle.writer.proofs.Twins.{Twins, twins, twins-back}
-use Rattle.writer.proofs.Appended.{after-run, held-unmarked, appended-arrive}
+use Rattle.writer.proofs.Appended.{appended-arrive}
 use Rattle.writer.proofs.Walked.{walked}
 use Rattle.writer.proofs.Stepping.{by-rule-alike, Stepping, stepping-alike, stepping-join, stepping-within}
 
@@ -50,7 +51,7 @@ module _ (rs : List Rule) (ns : List Node) where
 
   -- the later terms f lead from node l to node r, each one step from the one before
   pub record StepWay (l r : ℕ) (f : Terms) : Type 0 where
-    pub arrives : strip (lastOr (one (termOf ns l)) f) ≡ strip (one (termOf ns r))
+    pub arrives : Leads ns l r f
     pub steps : Stepping rs (one (termOf ns l)) f
 
   abbrev Both : ℕ → ℕ → Terms → Terms → Type 0
@@ -72,7 +73,7 @@ module _ (rs : List Rule) (ns : List Node) where
 
   module _ (cs : List Connection) (proof : ℕ → ℕ → Terms) (known : (x y : ℕ) → root cs x ≡ root cs y → StepWay x y (proof x y)) where
     runs-step : (o : ℕ) (before : Terms) → marks before ≡ 0 → (xs ys : List ℕ) → Paired cs xs ys → (t : Terms) →
-        strip t ≡ strip (tree o unmarked (join before (row (termOf ns) xs)) noTerms) → Stepping rs t (runs ns proof o before xs ys)
+        Like o (join before (row (termOf ns) xs)) t → Stepping rs t (runs ns proof o before xs ys)
     unfolding runs Stepping row within
     runs-step o before e [] ys p t q = tt
     runs-step o before e (x ∷ xs) [] p t q = tt
@@ -84,8 +85,8 @@ module _ (rs : List Rule) (ns : List Node) where
         stepping-join rs t run (runs ns proof o (join before (one (termOf ns y))) xs ys)
         (stepping-alike rs (within o before behind from) t run (sym q)
         (stepping-within rs o before behind e (terms-unmarked ns xs) (termOf ns x .op) (termOf ns x .mark) (termOf ns x .kids) (proof x y) (w .steps)))
-        (runs-step o (join before (one (termOf ns y))) (held-unmarked ns cs proof before e y) xs ys (p .1) (lastOr t run)
-        (after-run ns cs proof o before e x y xs (proof x y) t (w .arrives) q))
+        (runs-step o (join before (one (termOf ns y))) (held-unmarked ns before e y) xs ys (p .1) (lastOr t run)
+        (after-run ns o before e x y xs (proof x y) t (w .arrives) q))
 
     appended-step : AcceptedNodes ns → (w : Justification) (up : Bool) (a b : ℕ) → (w ≡ Congruence → Twins ns cs a b) → Walked rs ns w up a b →
         Stepping rs (one (termOf ns a)) (appended ns proof w up a b)

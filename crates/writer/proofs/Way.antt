@@ -15,7 +15,7 @@ use Rattle.forest.specs.Hangs.{Loose, Accepted, Paired}
 use Rattle.forest.proofs.Accept.{accepted-loose}
 use Rattle.forest.proofs.Joined.{dist-sym}
 use Rattle.writer.specs.Marks.{OneMarkEach}
-use Rattle.writer.specs.Ends.{lastOr}
+use Rattle.writer.specs.Ends.{lastOr, Leads}
 use Rattle.writer.specs.Nodes.{AcceptedNodes}
 use Rattle.terms.proofs.Rows.{count-join, narrow-join}
 use Rattle.writer.proofs.Rows.{one-mark-join}
@@ -29,7 +29,7 @@ pub record Way (ns : List Node) (l r : ℕ) (f : Terms) (d : ℕ) : Type 0 where
   pub counted : count f ≡ d
   pub narrow : Narrow f
   pub marked : OneMarkEach f
-  pub arrives : strip (lastOr (one (termOf ns l)) f) ≡ strip (one (termOf ns r))
+  pub arrives : Leads ns l r f
 
 module _ (ns : List Node) where
   pub way-none : (n : ℕ) → Way ns n n noTerms 0
