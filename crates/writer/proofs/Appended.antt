@@ -38,7 +38,8 @@ module _ (ns : List Node) (cs : List Connection) (proof : ℕ → ℕ → Terms)
   appended-count d h (byRule n f) up a b s = refl
   appended-count d h Congruence up a b s = runs-count ns cs proof d h (opOf ns a) noTerms (kidsOf ns a) (kidsOf ns b) (s refl .kids)
 
-  pub appended-size : (d rec : ℕ → ℕ → ℕ) → Known cs (λ x y. count (proof x y) ≡ d x y) → Known cs (λ x y. size (proof x y) ≡ rec x y) →
+  pub appended-size : (d rec : ℕ → ℕ → ℕ) → Known cs (λ x y. count (proof x y) ≡ d x y) →
+      Known cs (λ x y. size (proof x y) ≡ rec x y) →
       (w : Justification) (up : Bool) (a b : ℕ) → Support w a b → size (appended ns proof w up a b) ≡ appendedSize ns d rec w a b
   unfolding appended appendedSize size
   appended-size d rec h i (byRule n f) up a b s = term-size ns b
@@ -57,7 +58,8 @@ module _ (ns : List Node) (cs : List Connection) (proof : ℕ → ℕ → Terms)
   unfolding appended Narrow count
   appended-narrow nodes h (byRule n f) up a b s = term-narrow ns nodes b
   appended-narrow nodes h Congruence up a b s =
-      runs-narrow ns cs proof nodes h (opOf ns a) noTerms tt (kidsOf ns a) (kidsOf ns b) (omega (arith, nodes .few a)) (s refl .kids)
+      runs-narrow ns cs proof nodes h (opOf ns a) noTerms tt (kidsOf ns a) (kidsOf ns b)
+      (omega (arith, nodes .few a)) (s refl .kids)
 
   pub appended-arrive : AcceptedNodes ns → Known cs (λ x y. Leads ns x y (proof x y)) →
       (w : Justification) (up : Bool) (a b : ℕ) → Support w a b →

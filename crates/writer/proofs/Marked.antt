@@ -44,7 +44,9 @@ one-way (tree o unmarked k s) h =
       | yes z ↦ rw (no-mark isForward refl k z, no-mark isBackward refl k z) (one-way s (omega arith))
       | no z ↦
           let w : marks s ≡ 0 = omega arith in
-          rw (no-mark isForward refl s w, no-mark isBackward refl s w, or-false (someMark isForward k), or-false (someMark isBackward k)) (one-way k (omega arith))
+          let only : (b : Bool) → (b || false) ≡ b = or-false in
+          rw (no-mark isForward refl s w, no-mark isBackward refl s w, only (someMark isForward k), only (someMark isBackward k))
+          (one-way k (omega arith))
     ]
 one-way (tree o (forward n) k s) h = rw (no-mark isBackward refl k (omega arith), no-mark isBackward refl s (omega arith))
 one-way (tree o (backward n) k s) h = rw (no-mark isForward refl k (omega arith), no-mark isForward refl s (omega arith))

@@ -103,14 +103,16 @@ module _ (ns : List Node) (nodes : AcceptedNodes ns) where
   enough zero (suc e) n p q = ap (above n) (sym (none-below (termBy ns e) n p (kidsOf ns n) (nodes .below n)))
   enough (suc d) zero n p q = ap (above n) (none-below (termBy ns d) n q (kidsOf ns n) (nodes .below n))
   enough (suc d) (suc e) n p q =
-      ap (above n) (row-same (termBy ns d) (termBy ns e) n (λ k h. enough d e k (omega arith) (omega arith)) (kidsOf ns n) (nodes .below n))
+      ap (above n)
+      (row-same (termBy ns d) (termBy ns e) n (λ k h. enough d e k (omega arith) (omega arith)) (kidsOf ns n) (nodes .below n))
 
   -- "Its term is the tree read through its children"
   pub term-is : (n : ℕ) → termOf ns n ≡ record { op = opOf ns n; mark = unmarked; kids = row (termOf ns) (kidsOf ns n) }
   unfolding termOf termBy
   term-is n =
       enough n (suc n) n (omega arith) (omega arith)
-      ∙ ap (above n) (row-same (termBy ns n) (termOf ns) n (λ k h. enough n k k (omega arith) (omega arith)) (kidsOf ns n) (nodes .below n))
+      ∙ ap (above n)
+      (row-same (termBy ns n) (termOf ns) n (λ k h. enough n k k (omega arith) (omega arith)) (kidsOf ns n) (nodes .below n))
 
   by-narrow : (d n : ℕ) → Narrow (one (termBy ns d n))
   unfolding Narrow termBy count

@@ -64,7 +64,8 @@ module _ (ns : List Node) (cs : List Connection) (proof : ℕ → ℕ → Terms)
       size-join (within o before (row (termOf ns) xs) (proof x y)) (runs ns proof o next xs ys)
       ∙ ap₂ _+_
       (within-size o before (row (termOf ns) xs) (proof x y) ∙ rw (h x y (p .0), i x y (p .0), e, terms-size ns xs))
-      (runs-size d rec h i o next (w + sizeOf ns y) (omega (arith, size-join before (one (termOf ns y)), term-size ns y)) xs ys (p .1))
+      (runs-size d rec h i o next (w + sizeOf ns y) (omega (arith, size-join before (one (termOf ns y)), term-size ns y))
+      xs ys (p .1))
 
   pub runs-one-mark : Known cs (λ x y. OneMarkEach (proof x y)) → (o : ℕ) (before : Terms) → marks before ≡ 0 → (xs ys : List ℕ) →
       Paired cs xs ys → OneMarkEach (runs ns proof o before xs ys)
@@ -77,7 +78,8 @@ module _ (ns : List Node) (cs : List Connection) (proof : ℕ → ℕ → Terms)
       (within-one-mark o before (row (termOf ns) xs) e (terms-unmarked ns xs) (proof x y) (h x y (p .0)))
       (runs-one-mark h o next (held-unmarked ns before e y) xs ys (p .1))
 
-  pub runs-narrow : AcceptedNodes ns → Known cs (λ x y. Narrow (proof x y)) → (o : ℕ) (before : Terms) → Narrow before → (xs ys : List ℕ) →
+  pub runs-narrow : AcceptedNodes ns → Known cs (λ x y. Narrow (proof x y)) → (o : ℕ) (before : Terms) → Narrow before →
+      (xs ys : List ℕ) →
       count before + length xs ≤ childLimit → Paired cs xs ys → Narrow (runs ns proof o before xs ys)
   unfolding runs Narrow count
   runs-narrow nodes h o before e [] ys c p = tt
@@ -85,7 +87,8 @@ module _ (ns : List Node) (cs : List Connection) (proof : ℕ → ℕ → Terms)
   runs-narrow nodes h o before e (x ∷ xs) (y ∷ ys) c p =
       let next = join before (one (termOf ns y)) in
       narrow-join (within o before (row (termOf ns) xs) (proof x y)) (runs ns proof o next xs ys)
-      (within-narrow o before (row (termOf ns) xs) e (terms-narrow ns nodes xs) (omega (arith, row-count (termOf ns) xs)) (proof x y)
+      (within-narrow o before (row (termOf ns) xs) e (terms-narrow ns nodes xs)
+      (omega (arith, row-count (termOf ns) xs)) (proof x y)
       (h x y (p .0)))
       (runs-narrow nodes h o next (narrow-join before (one (termOf ns y)) e (term-narrow ns nodes y)) xs ys
       (omega (arith, count-join before (one (termOf ns y)))) (p .1))

@@ -7,7 +7,7 @@ use native.Mathlib.Omega.{arith}
 use Rattle.model.specs.Term.{Mark, unmarked, forward, backward, Terms, noTerms, tree, join, strip}
 use Rattle.model.specs.Rule.{Rule}
 use Rattle.model.specs.Step.{ByRule, Step}
-use Rattle.model.specs.Verdict.{Chain}
+use Rattle.model.specs.Verdict.{Later, Chain}
 use Rattle.model.specs.Flat.{within}
 use Rattle.writer.specs.Marks.{marks, OneMarkEach}
 use Rattle.writer.specs.Ends.{lastOr}
@@ -78,7 +78,8 @@ module _ (rs : List Rule) where
   -- a child's run within its node, the other children held
   module _ (o : ℕ) (before behind : Terms) (b : marks before ≡ 0) (h : marks behind ≡ 0) where
     step-within : (p q : ℕ) (m n : Mark) (k l : Terms) → Step rs (tree p m k noTerms) (tree q n l noTerms) →
-        Step rs (tree o unmarked (join before (tree p m k behind)) noTerms) (tree o unmarked (join before (tree q n l behind)) noTerms)
+        Step rs (tree o unmarked (join before (tree p m k behind)) noTerms)
+        (tree o unmarked (join before (tree q n l behind)) noTerms)
     unfolding Step join
     step-within p q m n k l i = (
       refl,
@@ -99,4 +100,5 @@ module _ (rs : List Rule) where
   stepping-chain s noTerms e h = tt
   stepping-chain s (tree o m k f) e h =
       let w = well-marked (tree o m k noTerms) (e .0) in
-      (record { someMarks = w .someMarks; oneWay = w .oneWay; apart = w .apart; arises = h .0 }, stepping-chain (tree o m k noTerms) f (e .1) (h .1))
+      let here : Later rs s (tree o m k noTerms) = record { someMarks = w .someMarks; oneWay = w .oneWay; apart = w .apart; arises = h .0 } in
+      (here, stepping-chain (tree o m k noTerms) f (e .1) (h .1))

@@ -1,7 +1,7 @@
--- Where each rule connection is an instance of its listed rule, each later term between two joined nodes is one step of the checker from the
--- one before, the first from the left node's term.
+-- Where each rule connection is an instance of its listed rule, each later term between two joined nodes is one step of the
+-- checker from the one before, the first from the left node's term.
 use Prim.Native.Nat.{ℕ}
-use mathlib.Core.Path.{_≡_, refl, sym, ap, _∙_}
+use mathlib.Core.Path.{_≡_, refl, sym, ap}
 use mathlib.Core.Bool.{Bool, true, false}
 use mathlib.Core.List.{List, [], _∷_}
 use Rattle.model.specs.declared.Connection.{Connection}
@@ -14,7 +14,7 @@ use Rattle.model.specs.Term.{Mark, unmarked, forward, backward, Terms, noTerms,
 use Rattle.model.specs.Rule.{Rule}
 use Rattle.model.specs.Step.{Step}
 use Rattle.model.specs.Node.{Node, opOf, kidsOf, row, termOf}
-use Rattle.model.specs.Forest.{cur, nxt, root}
+use Rattle.model.specs.Forest.{cur, nxt}
 use Rattle.model.specs.Premise.{InstanceBy, Premise}
 use Rattle.model.specs.Flat.{markFor, markedTerm, within, runs, appended, laterStep, later}
 use Rattle.forest.specs.Hangs.{Accepted, Paired}
@@ -23,17 +23,17 @@ use Rattle.writer.specs.Marks.{marks}
 use Rattle.writer.specs.Ends.{lastOr, Leads}
 use Rattle.writer.specs.Nodes.{AcceptedNodes}
 use Rattle.writer.proofs.NodeTerms.{term-op, terms-unmarked, term-is}
-use Rattle.writer.proofs.Within.{last-join, last-alike}
-use Rattle.writer.proofs.Runs.{Like, after-run, held-unmarked}
+use Rattle.writer.proofs.Within.{leads-join}
+use Rattle.writer.proofs.Runs.{Known, Like, after-run, held-unmarked}
 use Rattle.writer.proofs.Twins.{Twins, twins, twins-back}
 use Rattle.writer.proofs.Appended.{appended-arrive}
 use Rattle.writer.proofs.Walked.{walked}
 use Rattle.writer.proofs.Stepping.{by-rule-alike, Stepping, stepping-alike, stepping-join, stepping-within}
 
--- a connection's instance, walked up from a to b or down from a to b
-abbrev Walked : List Rule → List Node → Justification → Bool → ℕ → ℕ → Type 0
-Walked rs ns w true a b = InstanceBy rs ns w a b
-Walked rs ns w false a b = InstanceBy rs ns w b a
+-- a rule connection's two terms are an instance of its rule: of the connection from a to b walked up, or from b to a walked down
+abbrev AlongRule : List Rule → List Node → Justification → Bool → ℕ → ℕ → Type 0
+AlongRule rs ns w true a b = InstanceBy rs ns w a b
+AlongRule rs ns w false a b = InstanceBy rs ns w b a
 
 module _ (rs : List Rule) (ns : List Node) where
   -- "marked at its root": the mark plays no part in the instance
@@ -41,7 +41,7 @@ module _ (rs : List Rule) (ns : List Node) where
   unfolding strip
   marked-alike m b = ap (λ o. tree o unmarked (strip (termOf ns b .kids)) noTerms) (term-op ns b)
 
-  marked-step : (n : RuleNo) (d : Direction) (up : Bool) (a b : ℕ) → Walked rs ns (byRule n d) up a b →
+  marked-step : (n : RuleNo) (d : Direction) (up : Bool) (a b : ℕ) → AlongRule rs ns (byRule n d) up a b →
       Step rs (one (termOf ns a)) (markedTerm ns (markFor (n .0) d up) b)
   unfolding Step
   marked-step n Forward true a b i = (by-rule-alike rs (n .0) _ _ _ _ refl (marked-alike (forward (n .0)) b) i, tt)
@@ -54,6 +54,7 @@ module _ (rs : List Rule) (ns : List Node) where
     pub arrives : Leads ns l r f
     pub steps : Stepping rs (one (termOf ns l)) f
 
+  -- the same as a relation between two walks, of which the second plays no part
   abbrev Both : ℕ → ℕ → Terms → Terms → Type 0
   Both l r f g = StepWay l r f
 
@@ -65,13 +66,13 @@ module _ (rs : List Rule) (ns : List Node) where
   two l m r f f′ g g′ v w =
       let from = one (termOf ns l) in
       record {
-        arrives = ap strip (last-join from f f′) ∙ last-alike (lastOr from f) (one (termOf ns m)) f′ (v .arrives) ∙ w .arrives;
+        arrives = leads-join ns l m r f f′ (v .arrives) (w .arrives);
         steps =
             stepping-join rs from f f′ (v .steps)
             (stepping-alike rs (one (termOf ns m)) (lastOr from f) f′ (sym (v .arrives)) (w .steps));
       }
 
-  module _ (cs : List Connection) (proof : ℕ → ℕ → Terms) (known : (x y : ℕ) → root cs x ≡ root cs y → StepWay x y (proof x y)) where
+  module _ (cs : List Connection) (proof : ℕ → ℕ → Terms) (known : Known cs (λ x y. StepWay x y (proof x y))) where
     runs-step : (o : ℕ) (before : Terms) → marks before ≡ 0 → (xs ys : List ℕ) → Paired cs xs ys → (t : Terms) →
         Like o (join before (row (termOf ns) xs)) t → Stepping rs t (runs ns proof o before xs ys)
     unfolding runs Stepping row within
@@ -79,17 +80,17 @@ module _ (rs : List Rule) (ns : List Node) where
     runs-step o before e (x ∷ xs) [] p t q = tt
     runs-step o before e (x ∷ xs) (y ∷ ys) p t q =
         let w = known x y (p .0) in
+        let u = termOf ns x in
         let behind = row (termOf ns) xs in
-        let from = one (termOf ns x) in
         let run = within o before behind (proof x y) in
         stepping-join rs t run (runs ns proof o (join before (one (termOf ns y))) xs ys)
-        (stepping-alike rs (within o before behind from) t run (sym q)
-        (stepping-within rs o before behind e (terms-unmarked ns xs) (termOf ns x .op) (termOf ns x .mark) (termOf ns x .kids) (proof x y) (w .steps)))
+        (stepping-alike rs (within o before behind (one u)) t run (sym q)
+        (stepping-within rs o before behind e (terms-unmarked ns xs) (u .op) (u .mark) (u .kids) (proof x y) (w .steps)))
         (runs-step o (join before (one (termOf ns y))) (held-unmarked ns before e y) xs ys (p .1) (lastOr t run)
         (after-run ns o before e x y xs (proof x y) t (w .arrives) q))
 
-    appended-step : AcceptedNodes ns → (w : Justification) (up : Bool) (a b : ℕ) → (w ≡ Congruence → Twins ns cs a b) → Walked rs ns w up a b →
-        Stepping rs (one (termOf ns a)) (appended ns proof w up a b)
+    appended-step : AcceptedNodes ns → (w : Justification) (up : Bool) (a b : ℕ) → (w ≡ Congruence → Twins ns cs a b) →
+        AlongRule rs ns w up a b → Stepping rs (one (termOf ns a)) (appended ns proof w up a b)
     unfolding appended Stepping join marks
     appended-step nodes (byRule n d) up a b s i = (marked-step n d up a b i, tt)
     appended-step nodes Congruence up a b s i =
@@ -102,8 +103,8 @@ module _ (rs : List Rule) (ns : List Node) where
     pub premise : Premise rs ns cs
 
   module _ (nodes : AcceptedNodes ns) where
-    own : (c : Connection) (cs : List Connection) → ((x y : ℕ) → root cs x ≡ root cs y → StepWay x y (later ns cs x y)) →
-        (up : Bool) (a b : ℕ) → (c .why ≡ Congruence → Twins ns cs a b) → Walked rs ns (c .why) up a b →
+    own : (c : Connection) (cs : List Connection) → Known cs (λ x y. StepWay x y (later ns cs x y)) →
+        (up : Bool) (a b : ℕ) → (c .why ≡ Congruence → Twins ns cs a b) → AlongRule rs ns (c .why) up a b →
         StepWay a b (appended ns (later ns cs) (c .why) up a b)
     own c cs known up a b s i =
         record {
@@ -111,7 +112,7 @@ module _ (rs : List Rule) (ns : List Node) where
           steps = appended-step cs (later ns cs) known nodes (c .why) up a b s i;
         }
 
-    pub step-way : (cs : List Connection) → Sound cs → (l r : ℕ) → root cs l ≡ root cs r → StepWay l r (later ns cs l r)
+    pub step-way : (cs : List Connection) → Sound cs → Known cs (λ l r. StepWay l r (later ns cs l r))
     unfolding later Premise
     step-way =
         walked noTerms join (laterStep ns) noTerms join (laterStep ns) Both none two Sound

@@ -51,8 +51,8 @@ pub nodes-none : AcceptedNodes []
 unfolding allBelow
 nodes-none = record { below = λ n. refl; few = λ n. omega arith }
 
-pub nodes-more : (ns ns′ : List Node) (x : Node) → length (x .kids) ≤ childLimit → AcceptedNodes ns → addNode ns (some x) ≡ good ns′ →
-    AcceptedNodes ns′
+pub nodes-more : (ns ns′ : List Node) (x : Node) → length (x .kids) ≤ childLimit → AcceptedNodes ns →
+    addNode ns (some x) ≡ good ns′ → AcceptedNodes ns′
 unfolding addNode
 nodes-more ns ns′ x c a p =
     let q = taken (leb nodeLimit (length ns)) 3 _ _ p in
@@ -74,10 +74,12 @@ entry-few : (ws : List ℕ) (i : ℕ) (x : Node) → nodeEntry ws i ≡ some x �
 unfolding nodeEntry nodeAt
 entry-few ws i x p = go (leb (i * 10 + 10) (length ws)) (leb (getD ws (i * 10 + 1) 0) childLimit) refl p
   where
-    go : (s t : Bool) → leb (getD ws (i * 10 + 1) 0) childLimit ≡ t → onlyIf (s && t) (some (nodeAt ws i)) ≡ some x → length (x .kids) ≤ childLimit
+    go : (s t : Bool) → leb (getD ws (i * 10 + 1) 0) childLimit ≡ t → onlyIf (s && t) (some (nodeAt ws i)) ≡ some x →
+        length (x .kids) ≤ childLimit
     go true true e q =
         let k : nodeAt ws i ≡ x = cc in
-        omega (arith, leb-true (getD ws (i * 10 + 1) 0) childLimit e, ap (λ (y : Node). length (y .kids)) k, words-from-length ws (i * 10 + 2) (getD ws (i * 10 + 1) 0))
+        let n = getD ws (i * 10 + 1) 0 in
+        omega (arith, leb-true n childLimit e, ap (λ (y : Node). length (y .kids)) k, words-from-length ws (i * 10 + 2) n)
     go true false e q = let z : _≡_ {A = ℕ} 0 1 = cc in absurd (omega arith)
     go false t e q = let z : _≡_ {A = ℕ} 0 1 = cc in absurd (omega arith)
 
@@ -93,7 +95,8 @@ table-nodes ws ns = entries-keep addNode (nodeEntry ws) [] AcceptedNodes nodes-n
         go (some x) f q = nodes-more a b x (f x refl) k q
 
 -- a connection that is accepted is the newest
-pub connections-more : (ns : List Node) (cs cs′ : List Connection) (c : Connection) → addConnection ns cs (some c) ≡ good cs′ → c ∷ cs ≡ cs′
+pub connections-more : (ns : List Node) (cs cs′ : List Connection) (c : Connection) →
+    addConnection ns cs (some c) ≡ good cs′ → c ∷ cs ≡ cs′
 unfolding addConnection
 connections-more ns cs cs′ c p =
     let q = taken (misplaced ns cs c) 6 _ _ p in

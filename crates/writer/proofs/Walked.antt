@@ -27,8 +27,11 @@ module _ {A B : Type 0} (a : A) (_·_ : A → A → A) (f : List Connection → 
   Between cs = (l r : ℕ) → root cs l ≡ root cs r → R l r (F cs l r) (G cs l r)
 
   -- it holds of what a connection gives, walked up and down, if it holds between the nodes that older ones join
-  module _ (up : (c : Connection) (cs : List Connection) → K (c ∷ cs) → Between cs → R (cur c) (nxt c) (f cs (F cs) c true) (g cs (G cs) c true))
-      (down : (c : Connection) (cs : List Connection) → K (c ∷ cs) → Between cs → R (nxt c) (cur c) (f cs (F cs) c false) (g cs (G cs) c false)) where
+  module _
+      (up : (c : Connection) (cs : List Connection) → K (c ∷ cs) → Between cs →
+      R (cur c) (nxt c) (f cs (F cs) c true) (g cs (G cs) c true))
+      (down : (c : Connection) (cs : List Connection) → K (c ∷ cs) → Between cs →
+      R (nxt c) (cur c) (f cs (F cs) c false) (g cs (G cs) c false)) where
     pub walked : (cs : List Connection) → K cs → Between cs
     unfolding walk root
     walked [] k l r j = rw j (none r)

@@ -1,15 +1,15 @@
 -- The later terms between two joined nodes: as many as the distance, one mark in each, and from the left node's term to the
 -- right node's. Both tables are accepted.
 use Prim.Native.Nat.{ℕ, _+_}
-use mathlib.Core.Path.{_≡_, refl, ap, ap₂, subst, _∙_}
+use mathlib.Core.Path.{_≡_, refl, ap₂, subst, _∙_}
 use mathlib.Core.Bool.{Bool, true, false}
 use mathlib.Core.List.{List, [], _∷_}
 use Rattle.model.specs.declared.Connection.{Connection}
 use Rattle.model.specs.declared.Justification.{Justification}
 use Rattle.model.specs.declared.Justification.the-variants.{Rule as byRule, Congruence}
-use Rattle.model.specs.Term.{Terms, noTerms, count, join, one, strip, Narrow}
-use Rattle.model.specs.Node.{Node, kidsOf, termOf}
-use Rattle.model.specs.Forest.{cur, nxt, root, sumPairs, costBy, dist}
+use Rattle.model.specs.Term.{Terms, noTerms, count, join, Narrow}
+use Rattle.model.specs.Node.{Node, kidsOf}
+use Rattle.model.specs.Forest.{cur, nxt, sumPairs, costBy, dist}
 use Rattle.model.specs.Flat.{appended, laterStep, later}
 use Rattle.forest.specs.Hangs.{Loose, Accepted, Paired}
 use Rattle.forest.proofs.Accept.{accepted-loose}
@@ -19,7 +19,8 @@ use Rattle.writer.specs.Ends.{lastOr, Leads}
 use Rattle.writer.specs.Nodes.{AcceptedNodes}
 use Rattle.terms.proofs.Rows.{count-join, narrow-join}
 use Rattle.writer.proofs.Rows.{one-mark-join}
-use Rattle.writer.proofs.Within.{last-join, last-alike}
+use Rattle.writer.proofs.Within.{leads-join}
+use Rattle.writer.proofs.Runs.{Known}
 use Rattle.writer.proofs.Twins.{Twins, twins, twins-back}
 use Rattle.writer.proofs.Appended.{appended-narrow, appended-count, appended-one-mark, appended-arrive}
 use Rattle.writer.proofs.Walked.{walked}
@@ -42,14 +43,12 @@ module _ (ns : List Node) where
         counted = count-join f g ∙ ap₂ _+_ (v .counted) (w .counted);
         narrow = narrow-join f g (v .narrow) (w .narrow);
         marked = one-mark-join f g (v .marked) (w .marked);
-        arrives =
-            ap strip (last-join (one (termOf ns l)) f g)
-            ∙ last-alike (lastOr (one (termOf ns l)) f) (one (termOf ns m)) g (v .arrives)
-            ∙ w .arrives;
+        arrives = leads-join ns l m r f g (v .arrives) (w .arrives);
       }
 
   -- a connection costs the same both ways
-  pairs-turned : (cs : List Connection) (xs ys : List ℕ) → Loose cs → Paired cs xs ys → sumPairs (dist ns cs) ys xs ≡ sumPairs (dist ns cs) xs ys
+  pairs-turned : (cs : List Connection) (xs ys : List ℕ) → Loose cs → Paired cs xs ys →
+      sumPairs (dist ns cs) ys xs ≡ sumPairs (dist ns cs) xs ys
   unfolding sumPairs
   pairs-turned cs [] [] f p = refl
   pairs-turned cs [] (y ∷ ys) f p = absurd p
@@ -66,10 +65,8 @@ module _ (ns : List Node) where
   cost _ d c u = costBy ns d (c .why) (cur c) (nxt c)
 
   module _ (nodes : AcceptedNodes ns) where
-    abbrev Known : List Connection → Type 0
-    Known cs = (x y : ℕ) → root cs x ≡ root cs y → Way ns x y (later ns cs x y) (dist ns cs x y)
-
-    own : (c : Connection) (cs : List Connection) → Known cs → (up : Bool) (a b : ℕ) → (c .why ≡ Congruence → Twins ns cs a b) →
+    own : (c : Connection) (cs : List Connection) → Known cs (λ x y. Way ns x y (later ns cs x y) (dist ns cs x y)) →
+        (up : Bool) (a b : ℕ) → (c .why ≡ Congruence → Twins ns cs a b) →
         Way ns a b (appended ns (later ns cs) (c .why) up a b) (costBy ns (dist ns cs) (c .why) a b)
     own c cs known up a b s =
         let proof = later ns cs in
@@ -80,7 +77,7 @@ module _ (ns : List Node) where
           arrives = appended-arrive ns cs proof nodes (λ x y j. known x y j .arrives) (c .why) up a b s;
         }
 
-    pub way : (cs : List Connection) → Accepted ns cs → Known cs
+    pub way : (cs : List Connection) → Accepted ns cs → Known cs (λ l r. Way ns l r (later ns cs l r) (dist ns cs l r))
     unfolding later dist
     way =
         walked noTerms join (laterStep ns) 0 _+_ cost (Way ns) way-none way-two (Accepted ns) (λ c cs a. a .1) (accepted-loose ns)

@@ -2,12 +2,14 @@
 -- with the same marks, and the last becomes the last.
 use Prim.Native.Nat.{ℕ, suc, _+_, _*_, _≤_}
 use mathlib.Core.Path.{_≡_, refl, sym, ap, ap₂, _∙_}
+use mathlib.Core.List.{List}
 use native.Mathlib.Omega.{arith}
-use Rattle.model.specs.Term.{unmarked, Terms, noTerms, tree, count, join, strip, Narrow, size}
+use Rattle.model.specs.Term.{unmarked, Terms, noTerms, tree, one, count, join, strip, Narrow, size}
 use Rattle.model.specs.Limits.{childLimit}
+use Rattle.model.specs.Node.{Node, termOf}
 use Rattle.model.specs.Flat.{within}
 use Rattle.writer.specs.Marks.{marks, OneMarkEach}
-use Rattle.writer.specs.Ends.{lastOr}
+use Rattle.writer.specs.Ends.{lastOr, Leads}
 use Rattle.terms.proofs.Rows.{count-join, narrow-join, strip-join}
 use Rattle.writer.proofs.Rows.{size-join, marks-join, unmarked-strip}
 
@@ -21,6 +23,12 @@ pub last-alike : (t u f : Terms) → strip t ≡ strip u → strip (lastOr t f) 
 unfolding lastOr
 last-alike t u noTerms p = p
 last-alike t u (tree o m k s) p = refl
+
+pub leads-join : (ns : List Node) (l m r : ℕ) (f g : Terms) → Leads ns l m f → Leads ns m r g → Leads ns l r (join f g)
+leads-join ns l m r f g v w =
+    ap strip (last-join (one (termOf ns l)) f g)
+    ∙ last-alike (lastOr (one (termOf ns l)) f) (one (termOf ns m)) g v
+    ∙ w
 
 module _ (o : ℕ) (before behind : Terms) where
   pub within-count : (f : Terms) → count (within o before behind f) ≡ count f
@@ -44,7 +52,8 @@ module _ (o : ℕ) (before behind : Terms) where
   unfolding Narrow count within
   within-narrow b h c noTerms e = tt
   within-narrow b h c (tree p m k s) e =
-      (omega (arith, count-join before (tree p m k behind)), narrow-join before (tree p m k behind) b (e .0, e .1, h), within-narrow b h c s (e .2))
+      let kids = tree p m k behind in
+      (omega (arith, count-join before kids), narrow-join before kids b (e .0, e .1, h), within-narrow b h c s (e .2))
 
   pub within-one-mark : marks before ≡ 0 → marks behind ≡ 0 → (f : Terms) → OneMarkEach f →
       OneMarkEach (within o before behind f)
