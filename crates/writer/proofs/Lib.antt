@@ -12,3 +12,4 @@ pub mod Stepping
 pub mod Steps
 pub mod FlatProof
 pub mod Tables
+pub mod Delivered

@@ -2,8 +2,13 @@
 use Prim.Native.Nat.{_+_}
 use mathlib.Core.Path.{_≡_, refl, ap₂}
 use native.Mathlib.Omega.{arith}
-use Rattle.model.specs.Term.{unmarked, forward, backward, Terms, noTerms, tree, join, strip, size}
+use Rattle.model.specs.Term.{unmarked, forward, backward, Terms, noTerms, tree, count, join, strip, size}
 use Rattle.writer.specs.Marks.{marks, OneMarkEach}
+
+pub count-none : (f : Terms) → count f ≡ 0 → f ≡ noTerms
+unfolding count
+count-none noTerms h = refl
+count-none (tree o m k s) h = absurd (omega arith)
 
 pub size-join : (f g : Terms) → size (join f g) ≡ size f + size g
 unfolding size join

@@ -18,7 +18,7 @@ use Rattle.writer.specs.Marks.{OneMarkEach}
 use Rattle.writer.specs.Ends.{lastOr, Leads}
 use Rattle.writer.specs.Nodes.{AcceptedNodes}
 use Rattle.terms.proofs.Rows.{count-join, narrow-join}
-use Rattle.writer.proofs.Rows.{one-mark-join}
+use Rattle.writer.proofs.Rows.{count-none, one-mark-join}
 use Rattle.writer.proofs.Within.{leads-join}
 use Rattle.writer.proofs.Runs.{Known}
 use Rattle.writer.proofs.Twins.{Twins, twins, twins-back}
@@ -64,9 +64,12 @@ module _ (ns : List Node) where
   abbrev cost : List Connection → (ℕ → ℕ → ℕ) → Connection → Bool → ℕ
   cost _ d c u = costBy ns d (c .why) (cur c) (nxt c)
 
+  -- between any two nodes that connections join
+  abbrev pub Ways : List Connection → Type 0
+  Ways cs = Known cs (λ l r. Way ns l r (later ns cs l r) (dist ns cs l r))
+
   module _ (nodes : AcceptedNodes ns) where
-    own : (c : Connection) (cs : List Connection) → Known cs (λ x y. Way ns x y (later ns cs x y) (dist ns cs x y)) →
-        (up : Bool) (a b : ℕ) → (c .why ≡ Congruence → Twins ns cs a b) →
+    own : (c : Connection) (cs : List Connection) → Ways cs → (up : Bool) (a b : ℕ) → (c .why ≡ Congruence → Twins ns cs a b) →
         Way ns a b (appended ns (later ns cs) (c .why) up a b) (costBy ns (dist ns cs) (c .why) a b)
     own c cs known up a b s =
         let proof = later ns cs in
@@ -77,11 +80,32 @@ module _ (ns : List Node) where
           arrives = appended-arrive ns cs proof nodes (λ x y j. known x y j .arrives) (c .why) up a b s;
         }
 
-    pub way : (cs : List Connection) → Accepted ns cs → Known cs (λ l r. Way ns l r (later ns cs l r) (dist ns cs l r))
+    own-up : (c : Connection) (cs : List Connection) → Accepted ns (c ∷ cs) → Ways cs →
+        Way ns (cur c) (nxt c) (laterStep ns cs (later ns cs) c true) (cost cs (dist ns cs) c true)
+    own-up c cs a known = own c cs known true (cur c) (nxt c) (twins a)
+
+    own-down : (c : Connection) (cs : List Connection) → Accepted ns (c ∷ cs) → Ways cs →
+        Way ns (nxt c) (cur c) (laterStep ns cs (later ns cs) c false) (cost cs (dist ns cs) c false)
+    own-down c cs a known =
+        subst (Way ns (nxt c) (cur c) (laterStep ns cs (later ns cs) c false))
+        (cost-turned cs (c .why) (cur c) (nxt c) (accepted-loose ns cs (a .1)) (twins a))
+        (own c cs known false (nxt c) (cur c) (twins-back a))
+
+    pub way : (cs : List Connection) → Accepted ns cs → Ways cs
     unfolding later dist
     way =
         walked noTerms join (laterStep ns) 0 _+_ cost (Way ns) way-none way-two (Accepted ns) (λ c cs a. a .1) (accepted-loose ns)
-        (λ c cs a known. own c cs known true (cur c) (nxt c) (twins a))
-        (λ c cs a known. subst (Way ns (nxt c) (cur c) (appended ns (later ns cs) (c .why) false (nxt c) (cur c)))
-        (cost-turned cs (c .why) (cur c) (nxt c) (accepted-loose ns cs (a .1)) (twins a))
-        (own c cs known false (nxt c) (cur c) (twins-back a)))
+        own-up own-down
+
+    -- the same of what one connection appends, walked up and walked down
+    pub way-up : (c : Connection) (cs : List Connection) → Accepted ns (c ∷ cs) →
+        Way ns (cur c) (nxt c) (laterStep ns cs (later ns cs) c true) (costBy ns (dist ns cs) (c .why) (cur c) (nxt c))
+    way-up c cs a = own-up c cs a (way cs (a .1))
+
+    pub way-down : (c : Connection) (cs : List Connection) → Accepted ns (c ∷ cs) →
+        Way ns (nxt c) (cur c) (laterStep ns cs (later ns cs) c false) (costBy ns (dist ns cs) (c .why) (cur c) (nxt c))
+    way-down c cs a = own-down c cs a (way cs (a .1))
+
+-- where nothing is to pay there is nothing to write
+pub way-free : {ns : List Node} {l r : ℕ} {f : Terms} {d : ℕ} → Way ns l r f d → d ≡ 0 → f ≡ noTerms
+way-free {f = f} w z = count-none f (w .counted ∙ z)
