@@ -1,37 +1,23 @@
 -- What an answered query delivers, over accepted tables: the distance, the words of the flat proof and zeros behind them, the
 -- proof's ends and marks; and, where each rule connection is an instance of its listed rule, a proof that the strict checker accepts.
-use Prim.Native.Nat.{ℕ, suc, _-_, _≤_, _<_}
+use Prim.Native.Nat.{ℕ, suc}
 use mathlib.Core.Path.{_≡_, refl, sym, ap, subst, _∙_}
 use mathlib.Core.Bool.{Bool, true, false, not, _&&_, _||_, false≢true}
-use mathlib.Core.List.{_++_}
 use native.Mathlib.Omega.{arith}
 use borrow.Author.Tests.{ltb-true, ltb-false, not-false}
 use lib.Dec.{ltb}
-use lib.ListN.{length, replicate}
+use lib.ListN.{length}
 use Rattle.model.specs.declared.Answer.{Answer}
 use Rattle.model.specs.declared.Answer.the-variants.{Written}
 use Rattle.model.specs.Limits.{distanceLimit, wordLimit}
-use Rattle.model.specs.Term.{count, words}
+use Rattle.model.specs.Term.{words}
 use Rattle.model.specs.Verdict.{Proves}
 use Rattle.model.specs.Forest.{joined, dist}
-use Rattle.model.specs.Flat.{later, flatProof, needed}
-use Rattle.model.specs.Premise.{Premise}
+use Rattle.model.specs.Flat.{flatProof, needed}
 use Rattle.model.specs.Query.{Tables, refusedIf, answer, areaBy, areaAfter}
-use Rattle.forest.specs.Hangs.{Accepted}
-use Rattle.writer.specs.Marks.{OneMarkEach}
-use Rattle.writer.specs.Nodes.{AcceptedNodes}
-use Rattle.writer.proofs.FlatProof.{Ends, proof-count, needed-words, one-mark, ends, proves}
-
--- what an answer says: none of 8, 9, 10, 11 was given
-pub record Answered (t : Tables) (area l r d w : ℕ) : Type 0 where
-  pub left : l < length (t .nodes)
-  pub right : r < length (t .nodes)
-  pub joins : joined (t .conns) l r ≡ true
-  pub distance : d ≡ dist (t .nodes) (t .conns) l r
-  pub near : d ≤ distanceLimit
-  pub needs : w ≡ needed (t .nodes) (t .conns) l r
-  pub fits : w ≤ area
-  pub few : w ≤ wordLimit
+use Rattle.writer.specs.Accepted.{AcceptedTables}
+use Rattle.writer.specs.Delivered.{Answered, Delivered}
+use Rattle.writer.proofs.FlatProof.{proof-count, needed-words, one-mark, ends, proves}
 
 passed : (b : Bool) (n : ℕ) (f : Unit {0} → Answer) (d w : ℕ) → refusedIf b n f ≡ Written d w → (b ≡ false) × (f tt ≡ Written d w)
 passed true n f d w p = let z : _≡_ {A = ℕ} 0 1 = cc in absurd (omega arith)
@@ -70,30 +56,22 @@ answered t area l r d w p =
       few = omega (arith, ltb-false wordLimit w′ (room .1));
     }
 
-pub record Delivered (t : Tables) (area l r d w : ℕ) : Type 0 where
-  pub asked : Answered t area l r d w
-  pub counted : count (flatProof (t .nodes) (t .conns) l r) ≡ suc d
-  pub written : length (words (flatProof (t .nodes) (t .conns) l r)) ≡ w
-  pub lent : areaAfter t area l r ≡ words (flatProof (t .nodes) (t .conns) l r) ++ replicate (area - w) 0
-  pub between : Ends (t .nodes) l r (flatProof (t .nodes) (t .conns) l r)
-  pub marked : OneMarkEach (later (t .nodes) (t .conns) l r)
-  pub strict : Premise (t .rules) (t .nodes) (t .conns) → Proves (t .rules) (words (flatProof (t .nodes) (t .conns) l r)) (suc d)
-
-pub delivered : (t : Tables) → AcceptedNodes (t .nodes) → Accepted (t .nodes) (t .conns) → (area l r d w : ℕ) →
+pub delivered : (t : Tables) → AcceptedTables t → (area l r d w : ℕ) →
     answer t area l r ≡ Written d w → Delivered t area l r d w
 unfolding areaAfter
-delivered t nodes conns area l r d w p =
+delivered t ok area l r d w p =
     let ns = t .nodes in
     let cs = t .conns in
     let a = answered t area l r d w p in
     record {
       asked = a;
-      counted = proof-count ns cs nodes conns l r (a .joins) ∙ ap suc (sym (a .distance));
-      written = needed-words ns cs nodes conns l r (a .joins) ∙ sym (a .needs);
+      counted = proof-count ns cs (ok .nodes) (ok .conns) l r (a .joins) ∙ ap suc (sym (a .distance));
+      written = needed-words ns cs (ok .nodes) (ok .conns) l r (a .joins) ∙ sym (a .needs);
       lent = ap (λ v. areaBy v (words (flatProof ns cs l r)) area) p;
-      between = ends ns cs nodes conns l r (a .joins);
-      marked = one-mark ns cs nodes conns l r (a .joins);
+      between = ends ns cs (ok .nodes) (ok .conns) l r (a .joins);
+      marked = one-mark ns cs (ok .nodes) (ok .conns) l r (a .joins);
       strict = λ premise.
           subst (λ n. Proves (t .rules) (words (flatProof ns cs l r)) (suc n)) (sym (a .distance))
-          (proves ns cs nodes conns l r (a .joins) (t .rules) premise (omega (arith, a .distance, a .near)) (omega (arith, a .needs, a .few)));
+          (proves ns cs (ok .nodes) (ok .conns) l r (a .joins) (t .rules) premise
+          (omega (arith, a .distance, a .near)) (omega (arith, a .needs, a .few)));
     }

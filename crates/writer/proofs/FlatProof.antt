@@ -2,15 +2,15 @@
 -- ends; and, where each rule connection is an instance of its listed rule, that it is a strict proof.
 use Prim.Native.Nat.{ℕ, suc, _≤_}
 use mathlib.Core.Path.{_≡_, refl, ap, _∙_}
-use mathlib.Core.Bool.{true, false}
+use mathlib.Core.Bool.{true}
 use mathlib.Core.List.{List}
 use native.Mathlib.Omega.{arith}
 use lib.ListN.{length}
 use Rattle.model.specs.declared.Connection.{Connection}
 use Rattle.model.specs.Limits.{distanceLimit, wordLimit}
-use Rattle.model.specs.Term.{Terms, count, one, strip, Narrow, words, size}
+use Rattle.model.specs.Term.{count, one, Narrow, words, size}
 use Rattle.model.specs.Rule.{Rule}
-use Rattle.model.specs.Step.{someMark, isMark}
+use Rattle.model.specs.Step.{isMark}
 use Rattle.model.specs.Verdict.{Strict, Proves}
 use Rattle.model.specs.Node.{Node, termOf}
 use Rattle.model.specs.Forest.{joined, dist}
@@ -20,7 +20,7 @@ use Rattle.terms.proofs.Rows.{length-words}
 use Rattle.forest.specs.Hangs.{Accepted}
 use Rattle.forest.proofs.Joined.{joined-root}
 use Rattle.writer.specs.Marks.{OneMarkEach}
-use Rattle.writer.specs.Ends.{first, lastOr, last}
+use Rattle.writer.specs.Ends.{first, lastOr, last, Ends}
 use Rattle.writer.specs.Nodes.{AcceptedNodes}
 use Rattle.writer.proofs.NodeTerms.{term-unmarked, term-strip, term-size, term-narrow}
 use Rattle.writer.proofs.Marked.{no-mark}
@@ -28,12 +28,6 @@ use Rattle.writer.proofs.Way.{Way, way}
 use Rattle.writer.proofs.Needed.{later-size}
 use Rattle.writer.proofs.Stepping.{stepping-chain}
 use Rattle.writer.proofs.Steps.{step-way}
-
--- from the left node's term, unmarked, to the right node's, marks aside
-pub record Ends (ns : List Node) (l r : ℕ) (f : Terms) : Type 0 where
-  pub starts : first f ≡ one (termOf ns l)
-  pub plain : someMark isMark (first f) ≡ false
-  pub arrives : strip (last f) ≡ one (termOf ns r)
 
 module _ (ns : List Node) (cs : List Connection) (nodes : AcceptedNodes ns) (conns : Accepted ns cs) (l r : ℕ)
     (joins : joined cs l r ≡ true) where

@@ -1,3 +1,3 @@
-// The writer of flat proofs. What a flat proof has to be is said in crate model (specs/Flat.antt); what holds of each, whoever
-// writes it, is proved in proofs/: as many later terms as the distance, as many words as needed words says, exactly one
-// mark in each later term, the two ends, and that each later term is one step from the one before.
+// The writer of flat proofs. What a flat proof is, is said in crate model (specs/Flat.antt); proofs/ has what holds of each,
+// whoever writes it: as many terms as the distance and one, as many words as needed words says, exactly one mark in each
+// later term, the two ends, and that the strict checker accepts it. The code that writes one is still to come.
