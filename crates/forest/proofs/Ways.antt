@@ -1,0 +1,139 @@
+-- Both ends climb by parent connections until they meet: the way between two joined nodes goes up from the left and down
+-- to the right, and the two climbs meet at its top.
+use Prim.Native.Nat.{ℕ, zero, suc, _+_, _≤_}
+use mathlib.Core.Path.{_≡_, refl, sym, ap, _∙_}
+use mathlib.Core.Bool.{Bool, true, false}
+use mathlib.Core.List.{List}
+use native.Mathlib.Omega.{arith}
+use native.Mathlib.Decide.{ℕ-discrete, decLe}
+use Rattle.model.specs.declared.Connection.{Connection}
+use Rattle.model.specs.Forest.{nxt, root, walk, Parent, top, below, parentOf}
+use Rattle.forest.specs.Hangs.{nextOf, depth, Forest}
+use Rattle.forest.proofs.Laws.{climb-left, climb-right, walk-self, root-below, depth-below, depth-zero}
+use Rattle.forest.proofs.Places.{high, low, place}
+
+-- the node k connections above
+pub climbBy : List Connection → ℕ → ℕ → ℕ
+climbBy cs zero n = n
+climbBy cs (suc k) n = climbBy cs k (nextOf cs n)
+
+next-high : (cs : List Connection) (n : ℕ) → Forest cs → root cs n ≡ n → depth cs n ≡ 0 → nextOf cs n ≡ n
+unfolding nextOf
+next-high cs n f a b = go (parentOf cs n) refl
+  where
+    go : (p : Parent) → parentOf cs n ≡ p → nextOf cs n ≡ n
+    go top q = rw q
+    go (below c o) q = absurd (omega (arith, depth-below cs n f q))
+
+module _ {A : Type 0} (e : A) (_·_ : A → A → A) (step : List Connection → (ℕ → ℕ → A) → Connection → Bool → A) where
+  abbrev hopBy : Parent → Bool → A
+  hopBy top u = e
+  hopBy (below c o) u = step o (walk e _·_ step o) c u
+
+  -- the step from a node to its parent, or back
+  pub hop : List Connection → ℕ → Bool → A
+  hop cs n u = hopBy (parentOf cs n) u
+
+  pub ups : List Connection → ℕ → ℕ → A
+  ups cs zero n = e
+  ups cs (suc k) n = _·_ (hop cs n true) (ups cs k (nextOf cs n))
+
+  pub downs : List Connection → ℕ → ℕ → A
+  downs cs zero n = e
+  downs cs (suc k) n = _·_ (downs cs k (nextOf cs n)) (hop cs n false)
+
+  pub record Meets (cs : List Connection) (l r : ℕ) : Type 0 where
+    pub i : ℕ
+    pub j : ℕ
+    pub meet : climbBy cs i l ≡ climbBy cs j r
+    pub left : depth cs l ≡ i + depth cs (climbBy cs i l)
+    pub right : depth cs r ≡ j + depth cs (climbBy cs j r)
+    pub whole : walk e _·_ step cs l r ≡ _·_ (ups cs i l) (downs cs j r)
+
+  module _ (assoc : (a b c : A) → _·_ (_·_ a b) c ≡ _·_ a (_·_ b c)) (unit-l : (a : A) → _·_ e a ≡ a) (unit-r : (a : A) → _·_ a e ≡ a) where
+    hop-low : (cs : List Connection) (n : ℕ) (u : Bool) {c : Connection} {o : List Connection} → parentOf cs n ≡ below c o → hop cs n u ≡ step o (walk e _·_ step o) c u
+    unfolding hop
+    hop-low cs n u p = rw p
+
+    meets-by : (d : ℕ) (cs : List Connection) (l r : ℕ) → Forest cs → root cs l ≡ root cs r → depth cs l + depth cs r ≤ d → Meets cs l r
+    unfolding climbBy ups downs
+    meets-by zero cs l r f j h =
+        let q : l ≡ r = sym (depth-zero cs l f (omega arith)) ∙ j ∙ depth-zero cs r f (omega arith) in
+        record {
+          i = 0;
+          j = 0;
+          meet = q;
+          left = omega arith;
+          right = omega arith;
+          whole = ap (walk e _·_ step cs l) (sym q) ∙ walk-self e _·_ step cs l ∙ sym (unit-l e);
+        }
+    meets-by (suc d) cs l r f j h =
+        elim (ℕ-discrete l r) [
+          | yes q ↦ record {
+            i = 0;
+            j = 0;
+            meet = q;
+            left = omega arith;
+            right = omega arith;
+            whole = ap (walk e _·_ step cs l) (sym q) ∙ walk-self e _·_ step cs l ∙ sym (unit-l e);
+          }
+          | no q ↦ elim (decLe (depth cs r) (depth cs l)) [
+            | yes z ↦ elim (place cs l f) [
+              | high a b ↦ absurd (q (sym a ∙ j ∙ depth-zero cs r f (omega arith)))
+              | low c o a b t ↦
+                  let m = meets-by d cs (nextOf cs l) r f (ap (root cs) b ∙ sym (root-below cs l f a) ∙ j) (omega arith) in
+                  record {
+                    i = suc (m .i);
+                    j = m .j;
+                    meet = m .meet;
+                    left = omega (arith, m .left);
+                    right = m .right;
+                    whole = climb-left e _·_ step assoc unit-l unit-r cs l r f a j z q
+                        ∙ ap (λ (x : A). _·_ x (walk e _·_ step cs (nxt c) r)) (sym (hop-low cs l true a))
+                        ∙ ap (λ (x : ℕ). _·_ (hop cs l true) (walk e _·_ step cs x r)) (sym b)
+                        ∙ ap (_·_ (hop cs l true)) (m .whole)
+                        ∙ sym (assoc _ _ _);
+                  }
+            ]
+            | no z ↦ elim (place cs r f) [
+              | high a b ↦ absurd (omega arith)
+              | low c o a b t ↦
+                  let m = meets-by d cs l (nextOf cs r) f (j ∙ root-below cs r f a ∙ ap (root cs) (sym b)) (omega arith) in
+                  record {
+                    i = m .i;
+                    j = suc (m .j);
+                    meet = m .meet;
+                    left = m .left;
+                    right = omega (arith, m .right);
+                    whole = climb-right e _·_ step assoc unit-l unit-r cs l r f a j (omega arith) q
+                        ∙ ap (_·_ (walk e _·_ step cs l (nxt c))) (sym (hop-low cs r false a))
+                        ∙ ap (λ (x : ℕ). _·_ (walk e _·_ step cs l x) (hop cs r false)) (sym b)
+                        ∙ ap (λ (x : A). _·_ x (hop cs r false)) (m .whole)
+                        ∙ assoc _ _ _;
+                  }
+            ]
+          ]
+        ]
+
+    pub meets : (cs : List Connection) (l r : ℕ) → Forest cs → root cs l ≡ root cs r → Meets cs l r
+    meets cs l r f j = meets-by (depth cs l + depth cs r) cs l r f j (omega arith)
+
+    -- and two climbs that meet are of joined nodes
+    pub root-climb : (k : ℕ) (cs : List Connection) (n : ℕ) → Forest cs → root cs (climbBy cs k n) ≡ root cs n
+    unfolding climbBy
+    root-climb zero cs n f = refl
+    root-climb (suc k) cs n f = root-climb k cs (nextOf cs n) f ∙ (elim (place cs n f) [
+      | high a b ↦ ap (root cs) (next-high cs n f a b)
+      | low c o a b t ↦ ap (root cs) b ∙ sym (root-below cs n f a)
+    ])
+
+    -- one step more at the top of the climb up, one step less of the climb down: what two loops write
+    pub ups-more : (k : ℕ) (cs : List Connection) (n : ℕ) → ups cs (suc k) n ≡ _·_ (ups cs k n) (hop cs (climbBy cs k n) true)
+    unfolding climbBy ups
+    ups-more zero cs n = unit-r _ ∙ sym (unit-l _)
+    ups-more (suc k) cs n = ap (_·_ (hop cs n true)) (ups-more k cs (nextOf cs n)) ∙ sym (assoc _ _ _)
+
+    pub downs-more : (k : ℕ) (cs : List Connection) (n : ℕ) → downs cs (suc k) n ≡ _·_ (hop cs (climbBy cs k n) false) (downs cs k n)
+    unfolding climbBy downs
+    downs-more zero cs n = unit-l _ ∙ sym (unit-r _)
+    downs-more (suc k) cs n = ap (λ (x : A). _·_ x (hop cs n false)) (downs-more k cs (nextOf cs n)) ∙ assoc _ _ _

@@ -1,0 +1,1 @@
+// Connections and the nodes they join: judged, met, and measured.

@@ -1,0 +1,15 @@
+pub mod Rows
+pub mod NodeTerms
+pub mod Within
+pub mod Runs
+pub mod Twins
+pub mod Appended
+pub mod Walked
+pub mod Way
+pub mod Needed
+pub mod Marked
+pub mod Stepping
+pub mod Steps
+pub mod FlatProof
+pub mod Tables
+pub mod Delivered
