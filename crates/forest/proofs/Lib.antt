@@ -6,3 +6,5 @@ pub mod Related
 pub mod Joined
 pub mod Edge
 pub mod Accept
+pub mod Climbs
+pub mod Tables
