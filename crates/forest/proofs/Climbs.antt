@@ -3,6 +3,7 @@ use Prim.Native.Nat.{ℕ, zero, suc, _+_, _*_, _-_, _≤_, _<_}
 use mathlib.Core.Path.{_≡_, refl, sym, ap, _∙_}
 use mathlib.Core.Bool.{Bool, true, false}
 use mathlib.Core.List.{List, [], _∷_}
+use mathlib.Core.Logic.{⊎-elim}
 use native.Mathlib.Omega.{arith}
 use native.Mathlib.Decide.{ℕ-discrete}
 use borrow.Author.Tests.{eq-eqb, ne-eqb}
@@ -10,10 +11,10 @@ use lib.ListN.{length, getD}
 use Rattle.model.specs.declared.Connection.{Connection}
 use Rattle.model.specs.Forest.{cur, nxt, root, joined, walk, top, below, parentOf}
 use Rattle.forest.specs.Hangs.{nextOf, depth, Forest}
-use Rattle.forest.specs.Tables.{connectionIn, oldest, ageOf, Stands}
+use Rattle.forest.specs.Tables.{connectionIn, oldest, ageOf, Within, Stands}
 use Rattle.forest.specs.Meet.{Last, none, at, last, orElse, lastUp, topOf, meetOf, found}
 use Rattle.forest.specs.declared.Meeting.the-variants.{At, Nowhere}
-use Rattle.forest.proofs.Laws.{parent-new, parent-old, depth-below, depth-top, root-below, depth-zero, joined-yes, joined-no, climb-left, climb-right, walk-self}
+use Rattle.forest.proofs.Laws.{no-parent, parent-case, parent-new, parent-old, depth-below, depth-top, root-below, depth-zero, joined-yes, joined-no, climb-left, climb-right, walk-self}
 use Rattle.forest.proofs.Bound.{depth-le}
 use Rattle.forest.proofs.Places.{Place, high, low, place, depth-next}
 
@@ -39,6 +40,14 @@ age-top (c ∷ cs) n p =
       | yes q ↦ absurd (omega (arith, age-new c cs n q))
       | no q ↦ parent-old c cs n q ∙ age-top cs n (sym (age-old c cs n q) ∙ p)
     ]
+
+-- a parent connection is one of the list's
+pub within-parent : (m : ℕ) (cs : List Connection) (n : ℕ) {c : Connection} {older : List Connection} → Within m cs →
+    parentOf cs n ≡ below c older → nxt c < m
+unfolding parentOf
+within-parent m [] n w p = absurd (no-parent p)
+within-parent m (d ∷ cs) n {c} w p =
+    ⊎-elim (λ q. rw (← (q .conn)) (w .1)) (λ q. within-parent m cs n (w .2) (q .from)) (parent-case d cs n p)
 
 pub record Aged (k : ℕ) (ws : List ℕ) (n a : ℕ) : Type 0 where
   pub less : a < k
@@ -128,7 +137,7 @@ module _ {ps ws : List ℕ} {count n : ℕ} (s : Stands ps ws count) (b : n < 20
 
   pub some-small : (getD ps n 0 ≡ 0 → ⊥) → getD ws ((getD ps n 0 - 1) * 5 + 1) 0 < 2048
   unfolding connectionIn
-  some-small z = s .ends (getD ps n 0 - 1) (some-less z)
+  some-small z = within-parent 2048 (oldest count ws) n (s .within) (aged z .by)
 
   pub some-depth : (getD ps n 0 ≡ 0 → ⊥) → depth (oldest count ws) n ≡ suc (depth (oldest count ws) (nextOf (oldest count ws) n))
   unfolding nextOf

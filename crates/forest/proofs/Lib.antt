@@ -8,3 +8,9 @@ pub mod Edge
 pub mod Accept
 pub mod Climbs
 pub mod Tables
+pub mod Entries
+pub mod Count
+pub mod Judging
+pub mod Built
+pub mod Children
+pub mod Cleared

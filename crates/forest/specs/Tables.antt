@@ -2,7 +2,7 @@
 -- What stands in a table is read without a test here: judging has tested it.
 use Prim.Native.Nat.{ℕ, zero, suc, _+_, _*_, _≤_, _<_}
 use mathlib.Core.Path.{_≡_}
-use mathlib.Core.Bool.{Bool, true, false, cond}
+use mathlib.Core.Bool.{Bool, true, false, cond, _&&_}
 use mathlib.Core.List.{List, [], _∷_, _++_}
 use mathlib.Core.Option.{Option, none, some}
 use lib.Dec.{eqb}
@@ -15,8 +15,9 @@ use Rattle.model.specs.declared.Justification.the-variants.{Rule as byRule, Con
 use Rattle.model.specs.Limits.{nodeLimit, childLimit}
 use Rattle.model.specs.Judged.{Judged, good, bad}
 use Rattle.model.specs.Node.{Node, addNode}
-use Rattle.model.specs.Forest.{cur, nxt}
-use Rattle.model.specs.Connect.{addConnection}
+use Rattle.model.specs.Forest.{cur, nxt, joined}
+use Rattle.model.specs.Term.{sameOp}
+use Rattle.model.specs.Connect.{pairsJoined, addConnection}
 use Rattle.model.specs.Tables.{nodeAt, nodeEntry, connectionEntry, entries, wordsFrom}
 use Rattle.forest.specs.Hangs.{Forest, Accepted}
 
@@ -88,12 +89,17 @@ pub record NodesStand (ws : List ℕ) (n : ℕ) : Type 0 where
   pub narrow : (a : ℕ) → a < n → countIn ws a ≤ childLimit
   pub lower : (a i : ℕ) → a < n → i < countIn ws a → childIn ws a i < a
 
+-- the ends of connections are nodes of a table of n
+abbrev pub Within : ℕ → List Connection → Type 0
+Within n [] = Unit {0}
+Within n (c ∷ cs) = (cur c < n) × (nxt c < n) × Within n cs
+
 -- a table's connections, up to a count, with the table of parents that belongs to them: all that climbing wants
 pub record Stands (parents conns : List ℕ) (count : ℕ) : Type 0 where
   pub size : length parents ≡ nodeLimit
   pub few : count ≤ nodeLimit
   pub room : count * 5 ≤ length conns
-  pub ends : (i : ℕ) → i < count → nxt (connectionIn conns i) < nodeLimit
+  pub within : Within nodeLimit (oldest count conns)
   pub forest : Forest (oldest count conns)
   pub agree : (m : ℕ) → m < nodeLimit → getD parents m 0 ≡ ageOf (oldest count conns) m
 
@@ -115,3 +121,8 @@ pub record Known (ws : List ℕ) (a : ℕ) : Type 0 where
   pub room : a * 10 + 10 ≤ length ws
   pub narrow : countIn ws a ≤ childLimit
   pub children : (i : ℕ) → i < countIn ws a → childIn ws a i < nodeLimit
+
+-- whether two nodes of a table support a congruence
+abbrev pub supportIn : List ℕ → List Connection → ℕ → ℕ → Bool
+supportIn ws cs a b =
+    sameOp (getD ws (a * 10) 0) (getD ws (b * 10) 0) && pairsJoined (joined cs) (childrenIn ws a) (childrenIn ws b)
