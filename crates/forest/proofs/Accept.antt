@@ -27,7 +27,7 @@ none-holds false false true d e p = absurd (false≢true (sym p))
 none-holds false false false true e p = absurd (false≢true (sym p))
 none-holds false false false false e p = (refl, refl, refl, refl, p)
 
-and-yes : (a b : Bool) → (a && b) ≡ true → (a ≡ true) × (b ≡ true)
+pub and-yes : (a b : Bool) → (a && b) ≡ true → (a ≡ true) × (b ≡ true)
 and-yes true b p = (refl, p)
 and-yes false b p = absurd (false≢true p)
 
@@ -35,7 +35,7 @@ top-of : (p : Parent) → isTop p ≡ true → p ≡ top
 top-of top e = refl
 top-of (below c o) e = absurd (false≢true e)
 
-taken : {A : Type 0} (b : Bool) (n : ℕ) (j : Judged A) (a : A) → refuseIf b n j ≡ good a → (b ≡ false) × (j ≡ good a)
+pub taken : {A : Type 0} (b : Bool) (n : ℕ) (j : Judged A) (a : A) → refuseIf b n j ≡ good a → (b ≡ false) × (j ≡ good a)
 taken true n j a p = let z : _≡_ {A = ℕ} 0 1 = cc in absurd (omega arith)
 taken false n j a p = (refl, p)
 

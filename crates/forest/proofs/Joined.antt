@@ -5,7 +5,7 @@ use native.Mathlib.Nat.{add-assoc, add-comm}
 use mathlib.Core.Path.{_≡_, refl, sym, ap, _∙_}
 use mathlib.Core.Bool.{Bool, true, false, _&&_, _||_, or-true}
 use mathlib.Core.List.{List, [], _∷_, _++_, List·Memᴰ, List·Memᴰ·head, List·Memᴰ·tail}
-use mathlib.Core.Logic.{_⊎_, ⊎-elim}
+use mathlib.Core.Logic.{⊎-elim, _↔_}
 use native.Mathlib.Decide.{ℕ-discrete}
 use borrow.Author.Tests.{eqb-true, eqb-false}
 use Rattle.model.specs.declared.Connection.{Connection}
@@ -62,13 +62,8 @@ root-linked (c ∷ cs) l r p =
     through (linked-old (root-linked cs l (nxt c) (u .left))) (through (back new) (linked-old (root-linked cs (cur c) r (sym (u .right)))))))
     (split c cs l r p)
 
-pub record Iff (P Q : Type 0) : Type 0 where
-  pub to : P → Q
-  pub from : Q → P
-
-pub joined-linked : (cs : List Connection) (l r : ℕ) → Iff (joined cs l r ≡ true) (Linked cs l r)
-joined-linked cs l r =
-    record { to = λ p. root-linked cs l r (joined-root cs l r p); from = λ k. joined-yes cs l r (linked-root k) }
+pub joined-linked : (cs : List Connection) (l r : ℕ) → (joined cs l r ≡ true) ↔ Linked cs l r
+joined-linked cs l r = (λ p. root-linked cs l r (joined-root cs l r p), λ k. joined-yes cs l r (linked-root k))
 
 both-no : (a b : Bool) → (a ≡ true → b ≡ true → ⊥) → (a && b) ≡ false
 both-no true true p = absurd (p refl refl)

@@ -6,3 +6,11 @@ pub mod Related
 pub mod Joined
 pub mod Edge
 pub mod Accept
+pub mod Climbs
+pub mod Tables
+pub mod Entries
+pub mod Count
+pub mod Judging
+pub mod Built
+pub mod Children
+pub mod Cleared

@@ -1,1 +1,3 @@
 pub mod Hangs
+pub mod Tables
+pub mod Meet

@@ -1,0 +1,26 @@
+-- `forest::linked` meets its contract: two nodes are joined where their climbs meet.
+use borrow.Author.Needs.{needs}
+use Prim.Native.Nat.{_-_}
+use mathlib.Core.Path.{sym, ap, _∙_}
+use Rattle.forest.specs.Meet.{found}
+use Rattle.forest.proofs.Climbs.{meet-joined}
+use Rattle.forest.proofs.linked.Statement.{statement}
+use Rattle.forest.proofs.linked.Tie as tie
+
+meet-requires : tie.Need-meet-requires
+meet-requires c κs = search needs
+
+enum-told : tie.Need-enum-told
+enum-told c = search needs
+
+enum-told-2 : tie.Need-enum-told-2
+enum-told-2 c = search needs
+
+returns : tie.Need-returns
+returns c = ap found (sym (c .enum-told .given .1) ∙ c .before .before .meet .ensures) ∙ meet-joined _ _ _
+
+returns-2 : tie.Need-returns-2
+returns-2 c = ap found (sym (c .enum-told2 .given .1) ∙ c .before .before .meet .ensures) ∙ meet-joined _ _ _
+
+pub linked-spec : {M : Type 1} → statement M
+linked-spec = tie.close (tie.spec meet-requires enum-told enum-told-2 returns returns-2)
