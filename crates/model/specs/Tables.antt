@@ -130,19 +130,21 @@ unfolding entries connectionEntry addConnection
 connectionTable ns ws = entries (addConnection ns) (connectionEntry ws) [] ((length ws + 4) / 5)
 
 -- "nodes, rules, connections; first bad entry decides"
+abbrev pub withConnections : List Node → List Rule → Judged (List Connection) → Judged Tables
+withConnections ns rs (bad n) = bad n
+withConnections ns rs (good cs) = good (record { nodes = ns; rules = rs; conns = cs })
+
+abbrev pub withRules : List Node → Judged (List Rule) → Judged (List Connection) → Judged Tables
+withRules ns (bad n) cs = bad n
+withRules ns (good rs) cs = withConnections ns rs cs
+
+abbrev pub withNodes : Judged (List Node) → Judged (List Rule) → (List Node → Judged (List Connection)) → Judged Tables
+withNodes (bad n) rs cs = bad n
+withNodes (good ns) rs cs = withRules ns rs (cs ns)
+
 unfoldable pub tables : List ℕ → List ℕ → List ℕ → Judged Tables
 unfolding nodeTable ruleTable connectionTable
-tables nws rws cws =
-    elim (nodeTable nws) [
-      | bad n ↦ bad n
-      | good ns ↦ elim (ruleTable rws) [
-        | bad n ↦ bad n
-        | good rs ↦ elim (connectionTable ns cws) [
-          | bad n ↦ bad n
-          | good cs ↦ good (record { nodes = ns; rules = rs; conns = cs })
-        ]
-      ]
-    ]
+tables nws rws cws = withNodes (nodeTable nws) (ruleTable rws) (λ ns. connectionTable ns cws)
 
 -- "a query or check over bad ones returns that number, otherwise as its own refusals do, place 0"
 abbrev pub answerBy : Judged Tables → ℕ → ℕ → ℕ → Answer
