@@ -1,0 +1,15 @@
+/* Erbighenti for C: proved explanations of rewritten alert expressions.
+   Tables and proofs are runs of 16-bit words, each a pointer and a length in words; their layouts are in crates/model/specs/Tables.antt and Term.antt.
+   No pointer may be null, also where the length is 0. */
+#ifndef ERBIGHENTI_H
+#define ERBIGHENTI_H
+#include <stddef.h>
+#include <stdint.h>
+
+/* The strict checker over tables handed in whole. Returns document 01's number, 0 for an accepted proof.
+   Behind `value` stands the count of terms, or where it is refused the term's place from 0. */
+uint16_t erbighenti_check(const uint16_t *nodes, size_t nodes_len, const uint16_t *rules, size_t rules_len,
+                          const uint16_t *connections, size_t connections_len, const uint16_t *words, size_t words_len,
+                          uint64_t *value);
+
+#endif

@@ -1,0 +1,52 @@
+/* Calls the library on the cases that it reads from standard input, and prints each answer on a line.
+   A case is eight 32-bit numbers (what to call, the lengths of four runs of words, two numbers, and how often), and the four runs.
+   No header of the C library is wanted, so that the toolchain's own compiler is enough. */
+#include "../include/erbighenti.h"
+
+int printf(const char *format, ...);
+void *malloc(size_t size);
+void free(void *place);
+void exit(int status) __attribute__((noreturn));
+long read(int file, void *place, size_t length);
+long clock(void);
+
+/* reads as many bytes as asked for; 0 at the end of the input */
+static int full(void *place, size_t length)
+{
+    size_t done = 0;
+    while (done < length) {
+        long got = read(0, (char *)place + done, length - done);
+        if (got <= 0)
+            return 0;
+        done += (size_t)got;
+    }
+    return 1;
+}
+
+static uint16_t *run(uint32_t length)
+{
+    /* an empty run still has a place, so that no pointer is null */
+    uint16_t *words = malloc(length * sizeof(uint16_t) + 2);
+    if (words == 0 || !full(words, length * sizeof(uint16_t)))
+        exit(2);
+    return words;
+}
+
+int main(void)
+{
+    uint32_t head[8];
+    while (full(head, sizeof head)) {
+        uint16_t *nodes = run(head[1]), *rules = run(head[2]), *connections = run(head[3]), *words = run(head[4]);
+        uint64_t value = 0;
+        uint16_t number = 0;
+        long began = clock();
+        for (uint32_t k = 0; k < head[7]; k++) {
+            value = 77;
+            if (head[0] == 1)
+                number = erbighenti_check(nodes, head[1], rules, head[2], connections, head[3], words, head[4], &value);
+        }
+        printf("%u %llu %ld\n", number, (unsigned long long)value, clock() - began);
+        free(nodes), free(rules), free(connections), free(words);
+    }
+    return 0;
+}

@@ -1,0 +1,40 @@
+"""Builds the library with its test driver by the toolchain's own compiler, and calls it."""
+import os, platform, struct, subprocess
+
+TOP = os.path.dirname(os.path.dirname(os.path.abspath(__file__)))
+CHECK, DISTANCE = 1, 2
+
+
+def run(*command):
+    out = subprocess.run(command, cwd=TOP, capture_output=True, text=True)
+    if out.returncode:
+        raise SystemExit(f'{command[0]} failed: {(out.stdout + out.stderr)[-800:]}')
+    return out.stdout
+
+
+def build():
+    """The driver's path. `rt staticlib` proves what it builds, if that is not proved yet."""
+    run('rt', 'staticlib', 'explanation')
+    home = os.path.dirname(os.path.dirname(run('rt', 'doc').strip()))
+    tools = os.path.join(home, 'on', platform.machine(), 'toolchain')
+    lib, out = os.path.join(tools, 'lib'), os.path.join(TOP, 'target', 'tests')
+    os.makedirs(out, exist_ok=True)
+    run(os.path.join(tools, 'bin', 'clang'), '--target=x86_64-unknown-linux-gnu', '-O2', '-Wall', '-Wextra', '-Werror', '-Itests/headers',
+        '-c', 'tests/driver.c', '-o', f'{out}/driver.o')
+    run(os.path.join(tools, 'bin', 'ld.lld'), '-pie', '-dynamic-linker', f'{lib}/ld-linux-x86-64.so.2', f'{lib}/Scrt1.o', f'{lib}/crti.o',
+        f'{lib}/crtbeginS.o', f'{out}/driver.o', 'target/staticlib/libexplanation.a', f'{lib}/libc.so.6', f'{lib}/libc_nonshared.a',
+        f'{lib}/libgcc.a', f'{lib}/crtendS.o', f'{lib}/crtn.o', '-o', f'{out}/driver')
+    return f'{out}/driver'
+
+
+def case(what, nodes, rules, connections, words=(), left=0, right=0, times=1):
+    runs = [nodes, rules, connections, words]
+    return struct.pack('<8I', what, *map(len, runs), left, right, times) + b''.join(struct.pack(f'<{len(r)}H', *r) for r in runs)
+
+
+def call(driver, cases):
+    """The answers, (number, value, microseconds) each."""
+    out = subprocess.run([os.path.join(TOP, 'launch'), driver], input=b''.join(cases), capture_output=True)
+    if out.returncode:
+        raise SystemExit(f'the driver ended with status {out.returncode}: {out.stderr[-300:]!r}')
+    return [tuple(map(int, line.split())) for line in out.stdout.decode().splitlines()]
