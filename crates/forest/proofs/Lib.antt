@@ -14,3 +14,4 @@ pub mod Judging
 pub mod Built
 pub mod Children
 pub mod Cleared
+pub mod Support
