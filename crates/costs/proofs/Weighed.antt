@@ -1,15 +1,18 @@
 -- The sums of a filled table of costs are the distances, both held at the cap.
 use Prim.Native.Nat.{ℕ, zero, suc, _+_, _≤_, _<_}
-use mathlib.Core.Path.{_≡_, refl, ap₂, _∙_}
+use mathlib.Core.Path.{_≡_, refl, sym, ap₂, _∙_}
 use mathlib.Core.List.{List, [], _∷_}
 use native.Mathlib.Omega.{arith}
 use native.Mathlib.Numerals.{add-one}
-use native.Mathlib.Decide.{ℕ-discrete}
+use native.Mathlib.Decide.{ℕ-discrete, decLe}
+use borrow.Author.Tests.{lt-ltb, le-ltb}
+use lib.Dec.{ltb}
 use lib.Seq.{getD-set-same, getD-set-other}
 use lib.ListN.{length, getD, set, length-set}
 use Rattle.model.specs.declared.Direction.{Direction}
 use Rattle.model.specs.declared.RuleNo.{RuleNo}
 use Rattle.model.specs.declared.Justification.the-variants.{Rule as byRule, Congruence}
+use Rattle.model.specs.Limits.{distanceLimit}
 use Rattle.model.specs.Node.{Node}
 use Rattle.model.specs.Forest.{cur, nxt, dist, costBy, sumPairs}
 use Rattle.model.specs.Tables.{wordsFrom}
@@ -115,3 +118,14 @@ module _ {f : ℕ → ℕ → ℕ} {ws : List ℕ} {a b n i sum : ℕ} (s : Sums
   pub sums-done : n ≤ i → sum ≡ held (sumPairs f (wordsFrom ws a n) (wordsFrom ws b n))
   unfolding sumPairs
   sums-done h = omega (arith, ap₂ (sumPairs f) (left-none ws a n i h) (left-none ws b n i h), s .total, s .small)
+
+-- THE DECISION IS EXACT: a distance is above the limit where the held one is, and a held one that is not is the distance
+pub held-over : (d : ℕ) → ltb distanceLimit (held d) ≡ ltb distanceLimit d
+held-over d =
+    elim (decLe d distanceLimit) [
+      | yes h ↦ le-ltb distanceLimit (held d) (omega arith) ∙ sym (le-ltb distanceLimit d h)
+      | no h ↦ lt-ltb distanceLimit (held d) (omega arith) ∙ sym (lt-ltb distanceLimit d (omega arith))
+    ]
+
+pub held-exact : (d : ℕ) → held d ≤ distanceLimit → held d ≡ d
+held-exact d h = omega arith

@@ -15,3 +15,6 @@ pub mod Built
 pub mod Children
 pub mod Cleared
 pub mod Support
+pub mod Whole
+pub mod Climbed
+pub mod Kept
