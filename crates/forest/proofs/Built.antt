@@ -108,7 +108,7 @@ added ns cs (some c) new p =
     let q : new ≡ c ∷ cs = cc in
     record { conn = c; entry = refl; is = q; accepted = rw q at p }
 
-step-connection : (ns : List Node) (ws : List ℕ) (k : ℕ) {cs new : List Connection} → Connections ns ws k cs →
+pub step-connection : (ns : List Node) (ws : List ℕ) (k : ℕ) {cs new : List Connection} → Connections ns ws k cs →
     addConnection ns cs (connectionEntry ws k) ≡ good new → Connections ns ws (suc k) new
 unfolding oldest
 step-connection ns ws k {cs} {new} s p =
@@ -179,7 +179,7 @@ node-entry ws i x p =
     let q = w .1 in
     record { room = leb-true _ _ (b .0); narrow = leb-true _ _ (b .1); is = cc }
 
-step-node : (ws : List ℕ) (k : ℕ) {ns new : List Node} → Nodes ws k ns → addNode ns (nodeEntry ws k) ≡ good new → Nodes ws (suc k) new
+pub step-node : (ws : List ℕ) (k : ℕ) {ns new : List Node} → Nodes ws k ns → addNode ns (nodeEntry ws k) ≡ good new → Nodes ws (suc k) new
 unfolding firstNodes nodeAt
 step-node ws k {ns} {new} s p =
     let a = node-added ns (nodeEntry ws k) new p in

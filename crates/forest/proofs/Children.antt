@@ -7,7 +7,7 @@ use native.Mathlib.Omega.{arith}
 use native.Mathlib.Nat.{add-zero}
 use borrow.Author.Tests.{lt-ltb, le-ltb}
 use lib.Dec.{ltb}
-use lib.ListN.{getD}
+use lib.ListN.{length, getD}
 use Rattle.model.specs.Node.{allBelow}
 use Rattle.model.specs.Connect.{pairsJoined}
 use Rattle.model.specs.Tables.{wordsFrom}
@@ -30,6 +30,18 @@ module _ (ws : List ℕ) (at n : ℕ) where
   pub left-none : (i : ℕ) → n ≤ i → left ws at n i ≡ []
   unfolding wordsFrom
   left-none i h = let e : n - i ≡ 0 = omega arith in rw (e, wordsFrom) refl
+
+pub length-words : (ws : List ℕ) (at n : ℕ) → length (wordsFrom ws at n) ≡ n
+unfolding wordsFrom
+length-words ws at zero = refl
+length-words ws at (suc n) = ap suc (length-words ws (suc at) n)
+
+pub words-at : (ws : List ℕ) (at n i : ℕ) → i < n → getD (wordsFrom ws at n) i 0 ≡ getD ws (at + i) 0
+unfolding wordsFrom
+words-at ws at zero i h = absurd (omega arith)
+words-at ws at (suc n) zero h = ap (λ (p : ℕ). getD ws p 0) (sym (add-zero at))
+words-at ws at (suc n) (suc i) h =
+    words-at ws (suc at) n i (omega arith) ∙ ap (λ (p : ℕ). getD ws p 0) (omega arith)
 
 -- pairs of children, of which the first i are joined
 pub record Pairs (f : ℕ → ℕ → Bool) (ws : List ℕ) (a b n i : ℕ) : Type 0 where

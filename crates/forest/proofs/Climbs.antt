@@ -64,15 +64,15 @@ age-below (suc k) ws n a p =
           record { less = omega (arith, i .less); by = parent-old (connectionIn ws k) (oldest k ws) n q ∙ i .by }
     ]
 
-last-assoc : (a b c : Last) → last (last a b) c ≡ last a (last b c)
+pub last-assoc : (a b c : Last) → last (last a b) c ≡ last a (last b c)
 last-assoc a b none = refl
 last-assoc a b (at n) = refl
 
-last-none : (a : Last) → last none a ≡ a
+pub last-none : (a : Last) → last none a ≡ a
 last-none none = refl
 last-none (at n) = refl
 
-last-at : (l n : ℕ) (a : Last) → orElse l (last (at n) a) ≡ orElse n a
+pub last-at : (l n : ℕ) (a : Last) → orElse l (last (at n) a) ≡ orElse n a
 last-at l n none = refl
 last-at l n (at m) = refl
 

@@ -14,3 +14,7 @@ pub mod Judging
 pub mod Built
 pub mod Children
 pub mod Cleared
+pub mod Support
+pub mod Whole
+pub mod Climbed
+pub mod Kept

@@ -13,7 +13,7 @@ use Rattle.forest.proofs.Laws.{climb-left, climb-right, walk-self, root
 use Rattle.forest.proofs.Places.{high, low, place}
 
 -- the node k connections above
-pub climbBy : List Connection → ℕ → ℕ → ℕ
+unfoldable pub climbBy : List Connection → ℕ → ℕ → ℕ
 climbBy cs zero n = n
 climbBy cs (suc k) n = climbBy cs k (nextOf cs n)
 
@@ -31,14 +31,14 @@ module _ {A : Type 0} (e : A) (_·_ : A → A → A) (step : List Connection →
   hopBy (below c o) u = step o (walk e _·_ step o) c u
 
   -- the step from a node to its parent, or back
-  pub hop : List Connection → ℕ → Bool → A
+  unfoldable pub hop : List Connection → ℕ → Bool → A
   hop cs n u = hopBy (parentOf cs n) u
 
-  pub ups : List Connection → ℕ → ℕ → A
+  unfoldable pub ups : List Connection → ℕ → ℕ → A
   ups cs zero n = e
   ups cs (suc k) n = _·_ (hop cs n true) (ups cs k (nextOf cs n))
 
-  pub downs : List Connection → ℕ → ℕ → A
+  unfoldable pub downs : List Connection → ℕ → ℕ → A
   downs cs zero n = e
   downs cs (suc k) n = _·_ (downs cs k (nextOf cs n)) (hop cs n false)
 
@@ -50,11 +50,11 @@ module _ {A : Type 0} (e : A) (_·_ : A → A → A) (step : List Connection →
     pub right : depth cs r ≡ j + depth cs (climbBy cs j r)
     pub whole : walk e _·_ step cs l r ≡ _·_ (ups cs i l) (downs cs j r)
 
-  module _ (assoc : (a b c : A) → _·_ (_·_ a b) c ≡ _·_ a (_·_ b c)) (unit-l : (a : A) → _·_ e a ≡ a) (unit-r : (a : A) → _·_ a e ≡ a) where
-    hop-low : (cs : List Connection) (n : ℕ) (u : Bool) {c : Connection} {o : List Connection} → parentOf cs n ≡ below c o → hop cs n u ≡ step o (walk e _·_ step o) c u
-    unfolding hop
-    hop-low cs n u p = rw p
+  pub hop-low : (cs : List Connection) (n : ℕ) (u : Bool) {c : Connection} {o : List Connection} → parentOf cs n ≡ below c o → hop cs n u ≡ step o (walk e _·_ step o) c u
+  unfolding hop
+  hop-low cs n u p = rw p
 
+  module _ (assoc : (a b c : A) → _·_ (_·_ a b) c ≡ _·_ a (_·_ b c)) (unit-l : (a : A) → _·_ e a ≡ a) (unit-r : (a : A) → _·_ a e ≡ a) where
     meets-by : (d : ℕ) (cs : List Connection) (l r : ℕ) → Forest cs → root cs l ≡ root cs r → depth cs l + depth cs r ≤ d → Meets cs l r
     unfolding climbBy ups downs
     meets-by zero cs l r f j h =

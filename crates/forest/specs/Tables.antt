@@ -15,7 +15,7 @@ use Rattle.model.specs.declared.Justification.the-variants.{Rule as byRule, Con
 use Rattle.model.specs.Limits.{nodeLimit, childLimit}
 use Rattle.model.specs.Judged.{Judged, good, bad}
 use Rattle.model.specs.Node.{Node, addNode}
-use Rattle.model.specs.Forest.{cur, nxt, joined}
+use Rattle.model.specs.Forest.{cur, nxt, root, joined}
 use Rattle.model.specs.Term.{sameOp}
 use Rattle.model.specs.Connect.{pairsJoined, addConnection}
 use Rattle.model.specs.Tables.{nodeAt, nodeEntry, connectionEntry, entries, wordsFrom}
@@ -126,3 +126,10 @@ pub record Known (ws : List ℕ) (a : ℕ) : Type 0 where
 abbrev pub supportIn : List ℕ → List Connection → ℕ → ℕ → Bool
 supportIn ws cs a b =
     sameOp (getD ws (a * 10) 0) (getD ws (b * 10) 0) && pairsJoined (joined cs) (childrenIn ws a) (childrenIn ws b)
+
+-- two nodes whose children the oldest connections, up to a bound, join pair by pair
+pub record Twins (nodes conns : List ℕ) (bound a b : ℕ) : Type 0 where
+  pub left-known : Known nodes a
+  pub right-known : Known nodes b
+  pub even : countIn nodes a ≡ countIn nodes b
+  pub joins : (i : ℕ) → i < countIn nodes a → root (oldest bound conns) (childIn nodes a i) ≡ root (oldest bound conns) (childIn nodes b i)

@@ -1,0 +1,100 @@
+-- From judging to what later layers assume: tables that were accepted whole stand, and an accepted entry keeps them standing.
+use Prim.Native.Nat.{ℕ, suc, _+_, _/_, _≤_, _<_}
+use mathlib.Core.Path.{_≡_, refl, sym, ap, _∙_, subst}
+use mathlib.Core.List.{List, [], _∷_, _++_}
+use native.Mathlib.Omega.{arith}
+use native.Mathlib.Numerals.{add-one}
+use lib.Seq.{ext-getD}
+use lib.ListN.{length, set}
+use Rattle.model.specs.declared.Judgement.the-variants.{Taken}
+use Rattle.model.specs.Limits.{nodeLimit}
+use Rattle.model.specs.Judged.{good, judgementOf}
+use Rattle.model.specs.Node.{addNode}
+use Rattle.model.specs.Forest.{cur}
+use Rattle.model.specs.Connect.{addConnection}
+use Rattle.model.specs.Tables.{nodeAt, nodeEntry, nodeTable, connectionEntry, connectionTable}
+use Rattle.forest.specs.Hangs.{Accepted}
+use Rattle.forest.specs.Tables.{connectionIn, oldest, firstNodes, agesOf, parentWords, NodesStand, Stands, Supported}
+use Rattle.forest.proofs.Accept.{sound}
+use Rattle.forest.proofs.Climbs.{length-oldest}
+use Rattle.forest.proofs.Tables.{length-nodes}
+use Rattle.forest.proofs.Entries.{taken-good}
+use Rattle.forest.proofs.Built.{Nodes, nodes, step-node, connections, step-connection, stands, length-ages, ages-at, ages-more}
+
+-- a table of nodes that was accepted
+pub record NodesWhole (ws : List ℕ) : Type 0 where
+  pub stand : NodesStand ws (length ws / 10)
+  pub is : nodeTable ws ≡ good (firstNodes (length ws / 10) ws)
+
+pub nodes-whole : (ws : List ℕ) → Taken ≡ judgementOf (nodeTable ws) → NodesWhole ws
+unfolding nodeTable
+nodes-whole ws p =
+    let g = taken-good (nodeTable ws) p in
+    let t = nodes ws ((length ws + 9) / 10) (g .what) (g .is) in
+    let e : (length ws + 9) / 10 ≡ length ws / 10 = omega (arith, t .stand .room) in
+    record { stand = subst (NodesStand ws) e (t .stand); is = g .is ∙ ap good (t .is ∙ ap (λ (k : ℕ). firstNodes k ws) e) }
+
+-- a table of connections that was accepted over n nodes, with the table of parents that judging leaves
+pub record ConnectionsWhole (nodes : List ℕ) (n : ℕ) (conns parents : List ℕ) : Type 0 where
+  pub stand : Stands parents conns (length conns / 5)
+  pub support : Supported nodes n conns (length conns / 5)
+  pub is : connectionTable (firstNodes n nodes) conns ≡ good (oldest (length conns / 5) conns)
+
+pub connections-whole : (nodes : List ℕ) (n : ℕ) (conns parents : List ℕ) → NodesStand nodes n →
+    Taken ≡ judgementOf (connectionTable (firstNodes n nodes) conns) →
+    parents ≡ parentWords (connectionTable (firstNodes n nodes) conns) → ConnectionsWhole nodes n conns parents
+unfolding connectionTable
+connections-whole nodes n conns parents s p q =
+    let ns = firstNodes n nodes in
+    let g = taken-good (connectionTable ns conns) p in
+    let t = connections ns conns ((length conns + 4) / 5) (g .what) (g .is) in
+    let e : (length conns + 4) / 5 ≡ length conns / 5 = omega (arith, t .room) in
+    let is : connectionTable ns conns ≡ good (oldest (length conns / 5) conns) =
+    g .is ∙ ap good (t .is ∙ ap (λ (k : ℕ). oldest k conns) e) in
+    let accepted : Accepted ns (oldest (length conns / 5) conns) = subst (λ (k : ℕ). Accepted ns (oldest k conns)) e (t .accepted) in
+    record {
+      stand = stands ns parents conns (length conns / 5) accepted (omega (arith, length-nodes n nodes, s .few)) (omega (arith, t .room)) (q ∙ ap parentWords is);
+      support = record { table = s; accepted = accepted };
+      is = is;
+    }
+
+-- one entry more: a node
+pub node-stands : (ws : List ℕ) (n : ℕ) → NodesStand ws n → Taken ≡ judgementOf (addNode (firstNodes n ws) (nodeEntry ws n)) →
+    Nodes ws (suc n) (firstNodes n ws ++ (nodeAt ws n ∷ []))
+unfolding firstNodes
+node-stands ws n s p =
+    let g = taken-good (addNode (firstNodes n ws) (nodeEntry ws n)) p in
+    let t = step-node ws n (record { is = refl; stand = s }) (g .is) in
+    record { is = refl; stand = t .stand }
+
+-- one entry more: a connection, hung into the table of parents
+pub record Grown (nodes : List ℕ) (n : ℕ) (conns parents : List ℕ) (count : ℕ) : Type 0 where
+  pub stand : Stands parents conns (suc count)
+  pub support : Supported nodes n conns (suc count)
+
+pub ages-of : {parents conns : List ℕ} {count : ℕ} → Stands parents conns count → parents ≡ agesOf (oldest count conns) nodeLimit
+ages-of {parents} {conns} {count} s =
+    ext-getD 0 parents (agesOf (oldest count conns) nodeLimit) (s .size ∙ sym (length-ages (oldest count conns) nodeLimit))
+    (λ m h.
+    let q : m < nodeLimit = omega (arith, s .size) in
+    s .agree m q ∙ sym (ages-at (oldest count conns) nodeLimit m q))
+
+pub connection-stands : {nodes : List ℕ} {n : ℕ} {conns parents new : List ℕ} {count : ℕ} → Stands parents conns count → Supported nodes n conns count →
+    Taken ≡ judgementOf (addConnection (firstNodes n nodes) (oldest count conns) (connectionEntry conns count)) →
+    new ≡ set parents (cur (connectionIn conns count)) (count + 1) → Grown nodes n conns new count
+unfolding oldest
+connection-stands {nodes} {n} {conns} {parents} {new} {count} s a p e =
+    let ns = firstNodes n nodes in
+    let c = connectionIn conns count in
+    let g = taken-good (addConnection ns (oldest count conns) (connectionEntry conns count)) p in
+    let t = step-connection ns conns count (record { is = refl; accepted = a .accepted; room = s .room }) (g .is) in
+    let few : length ns ≤ nodeLimit = omega (arith, length-nodes n nodes, a .table .few) in
+    let small : cur c < nodeLimit = omega (arith, sound (t .accepted .0) .current-in) in
+    record {
+      stand =
+          stands ns new conns (suc count) (t .accepted) few (t .room)
+          (e ∙ ap (λ (l : List ℕ). set l (cur c) (count + 1)) (ages-of s)
+          ∙ ap (set (agesOf (oldest count conns) nodeLimit) (cur c)) (add-one count ∙ ap suc (sym (length-oldest count conns)))
+          ∙ ages-more c (oldest count conns) nodeLimit small);
+      support = record { table = a .table; accepted = t .accepted };
+    }
