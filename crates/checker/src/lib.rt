@@ -1,8 +1,12 @@
 // The strict checker. For each later term it judges, in this order: marks (15), marks inside another's subterm (18), unlisted
 // rules (16), and the step from the term before (17). Terms are walked flat.
 use marks::Marks;
+use model::RULE_WORDS;
 use model::RuleNo;
+use model::SIDE_WORDS;
+use model::TERM_LIMIT;
 use model::Verdict;
+use model::WORD_LIMIT;
 use rule_table::Listed;
 use terms::Node;
 use terms::Whole;
@@ -55,9 +59,9 @@ fn entry_fits(rules: &[u16], i: usize, words: &[u16], a: usize, b: usize) -> boo
     requires { ⌜ Well (now words) b ⌝ }
     ensures { λ r. ⌜ EntryFits (now (rules .entry)) i (now (words .entry)) a b r ⌝ }
 {
-    let left = i * 387 + 3;
-    let right = left + 192;
-    let end = right + 192;
+    let left = i * RULE_WORDS + 3;
+    let right = left + SIDE_WORDS;
+    let end = right + SIDE_WORDS;
     rules::rule_fits(&rules[left..right], &rules[right..end], words, a, b)
 }
 
@@ -210,7 +214,7 @@ fn terms_verdict(rules: &[u16], count: usize, words: &[u16], n: usize) -> Verdic
     requires { ⌜ 0 < n ⌝ }
     ensures { λ r. ⌜ TermsIs (now (rules .entry)) count (now (words .entry)) n r ⌝ }
 {
-    if n > 4096 {
+    if n > TERM_LIMIT {
         return Verdict::Rejected(19, 0);
     }
     if marks::marked(words, 0, 1) {
@@ -224,7 +228,7 @@ pub fn check(rules: &[u16], count: usize, words: &[u16]) -> Verdict
     requires { ⌜ Accepted (now rules) count ⌝ }
     ensures { λ r. ⌜ VerdictIs (now (rules .entry)) count (now (words .entry)) r ⌝ }
 {
-    if words.len() > 1048576 {
+    if words.len() > WORD_LIMIT {
         return Verdict::Rejected(19, 0);
     }
     if words.len() == 0 {

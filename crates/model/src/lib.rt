@@ -60,3 +60,29 @@ pub enum Printed {
     Bytes(usize),
     NoText(u16),
 }
+
+// The limits of document 01, each named once; specs/Limits.antt has the same numbers.
+pub const NODE_LIMIT: usize = 2048;
+
+pub const CHILD_LIMIT: u16 = 8;
+
+pub const RULE_LIMIT: usize = 256;
+
+pub const ITEM_LIMIT: usize = 64;
+
+pub const VARIABLE_LIMIT: usize = 16;
+
+pub const DISTANCE_LIMIT: usize = 4095;
+
+pub const TERM_LIMIT: usize = 4096;
+
+pub const WORD_LIMIT: usize = 1048576;
+
+// How many words an entry of each table has; specs/Tables.antt says which.
+pub const NODE_WORDS: usize = 10;
+
+pub const RULE_WORDS: usize = 387;
+
+pub const SIDE_WORDS: usize = 192;
+
+pub const CONNECTION_WORDS: usize = 5;

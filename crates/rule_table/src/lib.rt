@@ -1,7 +1,12 @@
 // The rule table. An entry is 387 words: its number, how many items its left and its right side have, and 64 slots of three
 // words (kind, variable or operator, count) for each side. Entries are judged one by one, and looked up by their numbers.
+use model::CHILD_LIMIT;
+use model::ITEM_LIMIT;
 use model::Judgement;
+use model::RULE_LIMIT;
+use model::RULE_WORDS;
 use model::RuleNo;
+use model::VARIABLE_LIMIT;
 ghost use mathlib.Core.Path.{_≡_};
 ghost use Prim.Native.Nat.{_+_, _*_, _≤_, min};
 ghost use lib.ListN.{length};
@@ -11,18 +16,10 @@ ghost use Rattle.model.specs.Tables.{ruleWords, sideAt, ruleTable};
 ghost use Rattle.rule_table.specs.Slots.{isSide, itemAt, slotOf, Standing, knownFrom};
 ghost use Rattle.rule_table.specs.Entries.{Accepted, entryOf, withEntry, placeOf};
 
-// The limits of document 01 that an entry is judged by.
-const RULE_LIMIT: usize = 256;
+// A child count is a word in a node, and a count of patterns here.
+const CHILDREN: usize = CHILD_LIMIT as usize;
 
-const ITEM_LIMIT: usize = 64;
-
-const CHILD_LIMIT: usize = 8;
-
-const VARIABLE_LIMIT: usize = 16;
-
-// How many words an entry has, and where the slots of its left and of its right side start.
-const RULE_WORDS: usize = 387;
-
+// Where the slots of an entry's left and of its right side start.
 const LEFT: usize = 3;
 
 const RIGHT: usize = 195;
@@ -72,7 +69,7 @@ fn item_at(words: &[u16], at: usize) -> Slot
             }
         }
         1 => {
-            if count <= CHILD_LIMIT {
+            if count <= CHILDREN {
                 Slot::Operator(count)
             } else {
                 Slot::Outside

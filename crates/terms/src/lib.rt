@@ -1,5 +1,6 @@
 // Flat terms: four words a node in preorder, which are its operator, child count, mark and rule. Terms can be very deep, so
 // they are walked flat, by a pending count: how many terms are still to be read.
+use model::CHILD_LIMIT;
 use model::OpNo;
 use model::RuleNo;
 ghost use mathlib.Core.Path.{_≡_};
@@ -53,7 +54,7 @@ pub fn node_at(words: &[u16], at: usize) -> Node
 pub fn node_ok(n: Node) -> bool
     ensures { λ r. ⌜ r ≡ okNode n ⌝ }
 {
-    if n.count > 8 {
+    if n.count > CHILD_LIMIT {
         return false;
     }
     let mark = n.mark;
