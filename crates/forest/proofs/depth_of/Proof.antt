@@ -3,6 +3,7 @@ use borrow.Author.Needs.{needs}
 use native.Mathlib.Omega.{arith}
 use Prim.Native.Nat.{ℕ, _+_, _-_, _<_, suc}
 use mathlib.Core.Path.{_≡_, sym, ap, _∙_}
+use Rattle.model.specs.Limits.{nodeLimit}
 use Rattle.forest.specs.Hangs.{depth}
 use Rattle.forest.specs.Tables.{oldest}
 use Rattle.forest.proofs.Climbs.{none-depth, some-depth, depth-small}
@@ -10,7 +11,7 @@ use Rattle.forest.proofs.depth_of.Statement.{statement}
 use Rattle.forest.proofs.depth_of.Tie as tie
 
 abbrev Inv-loop : tie.InvT-loop
-Inv-loop parents conns count at₀ steps₀ at steps = (at .0 < 2048) × (steps + depth (oldest count conns) (at .0) ≡ depth (oldest count conns) (at₀ .0))
+Inv-loop parents conns count at₀ steps₀ at steps = (at .0 < nodeLimit) × (steps + depth (oldest count conns) (at .0) ≡ depth (oldest count conns) (at₀ .0))
 
 abbrev μ-loop : tie.MeasureT-loop
 μ-loop parents conns count at₀ steps₀ at steps = depth (oldest count conns) (at .0)
