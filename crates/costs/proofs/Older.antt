@@ -112,18 +112,22 @@ module _ {ps ws : List ℕ} {count bound : ℕ} (s : Stands ps ws count) (h : bo
     pub right-onward : r < nodeLimit → depth all l ≤ depth all r → Onward ps ws count bound r
     right-onward small d = hung r l small (sym j) d (λ q. e (sym q)) .onward
 
-    pub left-weigh : l < nodeLimit → depth all r ≤ depth all l → weigh costs cs l r ≡ getD costs (getD ps l 0 - 1) 0 + weigh costs cs (nextOf all l) r
+    pub left-weigh : l < nodeLimit → depth all r ≤ depth all l →
+        weigh costs cs l r ≡ getD costs (getD ps l 0 - 1) 0 + weigh costs cs (nextOf all l) r
     unfolding weigh
     left-weigh small d =
         let g = hung l r small j d e in
-        climb-left 0 _+_ (λ older _ c u. getD costs (length older) 0) add-assoc zero-add add-zero cs l r f (g .by) j (omega (arith, kept bound count ws l r h j .deeper)) e
+        climb-left 0 _+_ (λ older _ c u. getD costs (length older) 0) add-assoc zero-add add-zero cs l r f (g .by) j
+        (omega (arith, kept bound count ws l r h j .deeper)) e
         ∙ rw (g .next, length-oldest) refl
 
-    pub right-weigh : r < nodeLimit → depth all l ≤ depth all r → weigh costs cs l r ≡ weigh costs cs l (nextOf all r) + getD costs (getD ps r 0 - 1) 0
+    pub right-weigh : r < nodeLimit → depth all l ≤ depth all r →
+        weigh costs cs l r ≡ weigh costs cs l (nextOf all r) + getD costs (getD ps r 0 - 1) 0
     unfolding weigh
     right-weigh small d =
         let g = hung r l small (sym j) d (λ q. e (sym q)) in
-        climb-right 0 _+_ (λ older _ c u. getD costs (length older) 0) add-assoc zero-add add-zero cs l r f (g .by) j (omega (arith, kept bound count ws l r h j .deeper)) e
+        climb-right 0 _+_ (λ older _ c u. getD costs (length older) 0) add-assoc zero-add add-zero cs l r f (g .by) j
+        (omega (arith, kept bound count ws l r h j .deeper)) e
         ∙ rw (g .next, length-oldest) refl
 
 -- two climbs, and what they have cost so far
@@ -145,7 +149,8 @@ module _ {ps ws : List ℕ} {count : ℕ} {costs : List ℕ} {bound l₀ r₀ l 
   way-left-onward d = left-onward s h costs l r (w .same) e (w .left-in) (omega (arith, w .left-depth, w .right-depth))
 
   module _ (m t : ℕ) (small : m < nodeLimit) where
-    pub way-right : dl < dr → m ≡ nextOf (oldest count ws) r → t ≡ held (sum + getD costs (getD ps r 0 - 1) 0) → Way ps ws count costs bound l₀ r₀ l m dl (dr - 1) t
+    pub way-right : dl < dr → m ≡ nextOf (oldest count ws) r → t ≡ held (sum + getD costs (getD ps r 0 - 1) 0) →
+        Way ps ws count costs bound l₀ r₀ l m dl (dr - 1) t
     way-right d q z =
         let o = way-right-onward d in
         let k = right-weigh s h costs l r (w .same) e (w .right-in) (omega (arith, w .left-depth, w .right-depth)) in
@@ -159,7 +164,8 @@ module _ {ps ws : List ℕ} {count : ℕ} {costs : List ℕ} {bound l₀ r₀ l 
           total = omega (arith, z, k, w .total);
         }
 
-    pub way-left : dr ≤ dl → m ≡ nextOf (oldest count ws) l → t ≡ held (sum + getD costs (getD ps l 0 - 1) 0) → Way ps ws count costs bound l₀ r₀ m r (dl - 1) dr t
+    pub way-left : dr ≤ dl → m ≡ nextOf (oldest count ws) l → t ≡ held (sum + getD costs (getD ps l 0 - 1) 0) →
+        Way ps ws count costs bound l₀ r₀ m r (dl - 1) dr t
     way-left d q z =
         let o = way-left-onward d in
         let k = left-weigh s h costs l r (w .same) e (w .left-in) (omega (arith, w .left-depth, w .right-depth)) in

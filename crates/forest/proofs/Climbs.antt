@@ -155,7 +155,8 @@ pub record Climb (cs : List Connection) (l₀ r₀ l r dl dr : ℕ) : Type 0 whe
   pub right-depth : dr ≡ depth cs r
   pub same : meetOf cs l r ≡ meetOf cs l₀ r₀
 
-module _ (cs : List Connection) (l₀ r₀ l r dl dr : ℕ) (f : Forest cs) (k : Climb cs l₀ r₀ l r dl dr) (n : l ≡ r → ⊥) (m : ℕ) (small : m < nodeLimit) where
+module _ (cs : List Connection) (l₀ r₀ l r dl dr : ℕ) (f : Forest cs) (k : Climb cs l₀ r₀ l r dl dr) (n : l ≡ r → ⊥) (m : ℕ)
+    (small : m < nodeLimit) where
   pub right-up : dl < dr → m ≡ nextOf cs r → Climb cs l₀ r₀ l m dl (dr - 1)
   right-up h e =
       rw e record {

@@ -76,7 +76,8 @@ stands-kept {ps} {ws} {vs} {k} s f h =
       agree = λ m q. s .agree m q ∙ ap (λ (cs : List Connection). ageOf cs m) e;
     }
 
-pub supported-kept : {nodes nodes′ : List ℕ} {n : ℕ} {ws vs : List ℕ} {k : ℕ} → Supported nodes n ws k → Front (n * 10) nodes nodes′ → n * 10 ≤ length nodes′ →
+pub supported-kept : {nodes nodes′ : List ℕ} {n : ℕ} {ws vs : List ℕ} {k : ℕ} → Supported nodes n ws k → Front (n * 10) nodes nodes′ →
+    n * 10 ≤ length nodes′ →
     Front (k * 5) ws vs → Supported nodes′ n vs k
 supported-kept {nodes} {nodes′} {n} {ws} {vs} {k} s f h g =
     record {
