@@ -7,6 +7,7 @@ use mathlib.Core.Logic.{⊎-elim}
 use native.Mathlib.Omega.{arith}
 use native.Mathlib.Decide.{ℕ-discrete}
 use lib.ListN.{length, getD}
+use Rattle.model.specs.Limits.{nodeLimit}
 use Rattle.model.specs.declared.Connection.{Connection}
 use Rattle.model.specs.Forest.{nxt, root, below, parentOf}
 use Rattle.forest.specs.Hangs.{nextOf, depth, Forest}
@@ -14,7 +15,7 @@ use Rattle.forest.specs.Tables.{connectionIn, oldest, Stands}
 use Rattle.forest.proofs.Laws.{parent-old, parent-case, no-parent, depth-below, depth-old, root-below, root-old, depth-zero, climb-left, climb-right, walk-self}
 use Rattle.forest.proofs.Places.{Place, high, low, place, next-below, depth-next}
 use Rattle.forest.proofs.Climbs.{aged, age-top, length-oldest}
-use Rattle.costs.specs.Costs.{held, weigh}
+use Rattle.costs.specs.Costs.{costCap, held, weigh}
 
 pub forest-older : (k m : ℕ) (ws : List ℕ) → k ≤ m → Forest (oldest m ws) → Forest (oldest k ws)
 unfolding oldest
@@ -80,7 +81,7 @@ module _ {ps ws : List ℕ} {count bound : ℕ} (s : Stands ps ws count) (h : bo
     pub next : nextOf all n ≡ nxt (connectionIn ws (getD ps n 0 - 1))
     pub onward : Onward ps ws count bound n
 
-  pub hung : (n m : ℕ) → n < 2048 → root cs n ≡ root cs m → depth all m ≤ depth all n → (n ≡ m → ⊥) → Hung n
+  pub hung : (n m : ℕ) → n < nodeLimit → root cs n ≡ root cs m → depth all m ≤ depth all n → (n ≡ m → ⊥) → Hung n
   hung n m small j d e = go (place cs n f)
     where
       go : Place cs n → Hung n
@@ -105,34 +106,38 @@ module _ {ps ws : List ℕ} {count bound : ℕ} (s : Stands ps ws count) (h : bo
           }
 
   module _ (costs : List ℕ) (l r : ℕ) (j : root cs l ≡ root cs r) (e : l ≡ r → ⊥) where
-    pub left-onward : l < 2048 → depth all r ≤ depth all l → Onward ps ws count bound l
+    pub left-onward : l < nodeLimit → depth all r ≤ depth all l → Onward ps ws count bound l
     left-onward small d = hung l r small j d e .onward
 
-    pub right-onward : r < 2048 → depth all l ≤ depth all r → Onward ps ws count bound r
+    pub right-onward : r < nodeLimit → depth all l ≤ depth all r → Onward ps ws count bound r
     right-onward small d = hung r l small (sym j) d (λ q. e (sym q)) .onward
 
-    pub left-weigh : l < 2048 → depth all r ≤ depth all l → weigh costs cs l r ≡ getD costs (getD ps l 0 - 1) 0 + weigh costs cs (nextOf all l) r
+    pub left-weigh : l < nodeLimit → depth all r ≤ depth all l →
+        weigh costs cs l r ≡ getD costs (getD ps l 0 - 1) 0 + weigh costs cs (nextOf all l) r
     unfolding weigh
     left-weigh small d =
         let g = hung l r small j d e in
-        climb-left 0 _+_ (λ older _ c u. getD costs (length older) 0) add-assoc zero-add add-zero cs l r f (g .by) j (omega (arith, kept bound count ws l r h j .deeper)) e
+        climb-left 0 _+_ (λ older _ c u. getD costs (length older) 0) add-assoc zero-add add-zero cs l r f (g .by) j
+        (omega (arith, kept bound count ws l r h j .deeper)) e
         ∙ rw (g .next, length-oldest) refl
 
-    pub right-weigh : r < 2048 → depth all l ≤ depth all r → weigh costs cs l r ≡ weigh costs cs l (nextOf all r) + getD costs (getD ps r 0 - 1) 0
+    pub right-weigh : r < nodeLimit → depth all l ≤ depth all r →
+        weigh costs cs l r ≡ weigh costs cs l (nextOf all r) + getD costs (getD ps r 0 - 1) 0
     unfolding weigh
     right-weigh small d =
         let g = hung r l small (sym j) d (λ q. e (sym q)) in
-        climb-right 0 _+_ (λ older _ c u. getD costs (length older) 0) add-assoc zero-add add-zero cs l r f (g .by) j (omega (arith, kept bound count ws l r h j .deeper)) e
+        climb-right 0 _+_ (λ older _ c u. getD costs (length older) 0) add-assoc zero-add add-zero cs l r f (g .by) j
+        (omega (arith, kept bound count ws l r h j .deeper)) e
         ∙ rw (g .next, length-oldest) refl
 
 -- two climbs, and what they have cost so far
 pub record Way (ps ws : List ℕ) (count : ℕ) (costs : List ℕ) (bound l₀ r₀ l r dl dr sum : ℕ) : Type 0 where
-  pub left-in : l < 2048
-  pub right-in : r < 2048
+  pub left-in : l < nodeLimit
+  pub right-in : r < nodeLimit
   pub left-depth : dl ≡ depth (oldest count ws) l
   pub right-depth : dr ≡ depth (oldest count ws) r
   pub same : root (oldest bound ws) l ≡ root (oldest bound ws) r
-  pub small : sum ≤ 4096
+  pub small : sum ≤ costCap
   pub total : held (sum + weigh costs (oldest bound ws) l r) ≡ held (weigh costs (oldest bound ws) l₀ r₀)
 
 module _ {ps ws : List ℕ} {count : ℕ} {costs : List ℕ} {bound l₀ r₀ l r dl dr sum : ℕ} (s : Stands ps ws count) (h : bound ≤ count)
@@ -143,8 +148,9 @@ module _ {ps ws : List ℕ} {count : ℕ} {costs : List ℕ} {bound l₀ r₀ l 
   pub way-left-onward : dr ≤ dl → Onward ps ws count bound l
   way-left-onward d = left-onward s h costs l r (w .same) e (w .left-in) (omega (arith, w .left-depth, w .right-depth))
 
-  module _ (m t : ℕ) (small : m < 2048) where
-    pub way-right : dl < dr → m ≡ nextOf (oldest count ws) r → t ≡ held (sum + getD costs (getD ps r 0 - 1) 0) → Way ps ws count costs bound l₀ r₀ l m dl (dr - 1) t
+  module _ (m t : ℕ) (small : m < nodeLimit) where
+    pub way-right : dl < dr → m ≡ nextOf (oldest count ws) r → t ≡ held (sum + getD costs (getD ps r 0 - 1) 0) →
+        Way ps ws count costs bound l₀ r₀ l m dl (dr - 1) t
     way-right d q z =
         let o = way-right-onward d in
         let k = right-weigh s h costs l r (w .same) e (w .right-in) (omega (arith, w .left-depth, w .right-depth)) in
@@ -158,7 +164,8 @@ module _ {ps ws : List ℕ} {count : ℕ} {costs : List ℕ} {bound l₀ r₀ l 
           total = omega (arith, z, k, w .total);
         }
 
-    pub way-left : dr ≤ dl → m ≡ nextOf (oldest count ws) l → t ≡ held (sum + getD costs (getD ps l 0 - 1) 0) → Way ps ws count costs bound l₀ r₀ m r (dl - 1) dr t
+    pub way-left : dr ≤ dl → m ≡ nextOf (oldest count ws) l → t ≡ held (sum + getD costs (getD ps l 0 - 1) 0) →
+        Way ps ws count costs bound l₀ r₀ m r (dl - 1) dr t
     way-left d q z =
         let o = way-left-onward d in
         let k = left-weigh s h costs l r (w .same) e (w .left-in) (omega (arith, w .left-depth, w .right-depth)) in

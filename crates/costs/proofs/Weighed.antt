@@ -73,18 +73,21 @@ module _ (ns : List Node) (ws costs : List ℕ) where
       related 0 _+_ (λ older _ c u. getD costs (length older) 0) 0 _+_ (λ _ d c u. costBy ns d (c .why) (cur c) (nxt c)) Same refl
       (λ x x′ y y′ p q. omega arith) (oldest k ws) l r (steps k f)
 
-sum-related : (f g : ℕ → ℕ → ℕ) (xs ys : List ℕ) → ((x y : ℕ) → held (f x y) ≡ held (g x y)) → held (sumPairs f xs ys) ≡ held (sumPairs g xs ys)
+sum-related : (f g : ℕ → ℕ → ℕ) (xs ys : List ℕ) → ((x y : ℕ) → held (f x y) ≡ held (g x y)) →
+    held (sumPairs f xs ys) ≡ held (sumPairs g xs ys)
 unfolding sumPairs
 sum-related f g [] ys h = refl
 sum-related f g (x ∷ xs) [] h = refl
 sum-related f g (x ∷ xs) (y ∷ ys) h = omega (arith, sum-related f g xs ys h, h x y)
 
 -- what a connection costs
-pub cost-rule : (ns : List Node) (ws : List ℕ) (a : ℕ) {n : RuleNo} {d : Direction} → connectionIn ws a .why ≡ byRule n d → costAt ns ws a ≡ 1
+pub cost-rule : (ns : List Node) (ws : List ℕ) (a : ℕ) {n : RuleNo} {d : Direction} → connectionIn ws a .why ≡ byRule n d →
+    costAt ns ws a ≡ 1
 unfolding costAt costBy
 cost-rule ns ws a w = rw w refl
 
-pub cost-cong : (n : ℕ) (nodes ws costs : List ℕ) (a : ℕ) → connectionIn ws a .why ≡ Congruence → cur (connectionIn ws a) < n → nxt (connectionIn ws a) < n →
+pub cost-cong : (n : ℕ) (nodes ws costs : List ℕ) (a : ℕ) → connectionIn ws a .why ≡ Congruence → cur (connectionIn ws a) < n →
+    nxt (connectionIn ws a) < n →
     Filled (firstNodes n nodes) ws costs a →
     held (sumPairs (weigh costs (oldest a ws)) (childrenIn nodes (cur (connectionIn ws a))) (childrenIn nodes (nxt (connectionIn ws a))))
     ≡ held (costAt (firstNodes n nodes) ws a)
@@ -92,7 +95,8 @@ unfolding costAt costBy
 cost-cong n nodes ws costs a w p q f =
     let ns = firstNodes n nodes in
     let c = connectionIn ws a in
-    sum-related (weigh costs (oldest a ws)) (dist ns (oldest a ws)) (childrenIn nodes (cur c)) (childrenIn nodes (nxt c)) (λ x y. weigh-dist ns ws costs a x y f)
+    sum-related (weigh costs (oldest a ws)) (dist ns (oldest a ws)) (childrenIn nodes (cur c))
+    (childrenIn nodes (nxt c)) (λ x y. weigh-dist ns ws costs a x y f)
     ∙ rw (w, children-in n nodes (cur c) p, children-in n nodes (nxt c) q) refl
 
 -- sums over pairs of children, of which the first i are counted
@@ -111,7 +115,8 @@ module _ {f : ℕ → ℕ → ℕ} {ws : List ℕ} {a b n i sum : ℕ} (s : Sums
   unfolding sumPairs
   first-sum h = ap₂ (sumPairs f) (left-next ws a n i h) (left-next ws b n i h)
 
-  pub sums-next : {v new : ℕ} → i < n → v ≡ held (f (getD ws (a + i) 0) (getD ws (b + i) 0)) → new ≡ held (sum + v) → Sums f ws a b n (i + 1) new
+  pub sums-next : {v new : ℕ} → i < n → v ≡ held (f (getD ws (a + i) 0) (getD ws (b + i) 0)) → new ≡ held (sum + v) →
+      Sums f ws a b n (i + 1) new
   sums-next h p q =
       record { some = omega arith; small = omega arith; total = omega (arith, first-sum h, s .total) }
 

@@ -14,15 +14,18 @@ ghost use Prim.Native.Nat.{_+_, _-_, _/_, _<_, _≤_};
 ghost use lib.ListN.{length, getD};
 ghost use Rattle.model.specs.Forest.{sumPairs, dist};
 ghost use Rattle.forest.specs.Tables.{Stands, Supported, Twins, oldest, childrenIn};
-ghost use Rattle.costs.specs.Costs.{held, costAt, filled, Filled, nodesOf, weigh, Priced, Pair};
+ghost use Rattle.costs.specs.Costs.{costCap, held, costAt, filled, Filled, nodesOf, weigh, Priced, Pair};
+
+// The first sum past 4,095: what is above is held here.
+const COST_CAP: u16 = 4096;
 
 // A sum, held at the cap.
 fn capped(a: u16, b: u16) -> u16
-    requires { ⌜ (a ≤ 4096) × (b ≤ 4096) ⌝ }
+    requires { ⌜ (a ≤ costCap) × (b ≤ costCap) ⌝ }
     ensures { λ r. ⌜ r ≡ held (a + b) ⌝ }
 {
     let sum = a + b;
-    if sum < 4096 { sum } else { 4096 }
+    if sum < COST_CAP { sum } else { COST_CAP }
 }
 
 // What the parent connection of n costs.

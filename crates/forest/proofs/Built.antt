@@ -55,7 +55,8 @@ ages-none k =
 pub ages-more : (c : Connection) (cs : List Connection) (k : ℕ) → cur c < k →
     set (agesOf cs k) (cur c) (suc (length cs)) ≡ agesOf (c ∷ cs) k
 ages-more c cs k h =
-    let same : length (set (agesOf cs k) (cur c) (suc (length cs))) ≡ k = length-set (agesOf cs k) (cur c) (suc (length cs)) ∙ length-ages cs k in
+    let same : length (set (agesOf cs k) (cur c) (suc (length cs))) ≡ k =
+    length-set (agesOf cs k) (cur c) (suc (length cs)) ∙ length-ages cs k in
     ext-getD 0 (set (agesOf cs k) (cur c) (suc (length cs))) (agesOf (c ∷ cs) k) (same ∙ sym (length-ages (c ∷ cs) k))
     (λ i q.
     elim (ℕ-discrete i (cur c)) [
@@ -99,7 +100,8 @@ record Added (ns : List Node) (cs : List Connection) (e : Option Connection) (ne
   is : new ≡ conn ∷ cs
   accepted : addConnection ns cs (some conn) ≡ good (conn ∷ cs)
 
-added : (ns : List Node) (cs : List Connection) (e : Option Connection) (new : List Connection) → addConnection ns cs e ≡ good new → Added ns cs e new
+added : (ns : List Node) (cs : List Connection) (e : Option Connection) (new : List Connection) → addConnection ns cs e ≡ good new →
+    Added ns cs e new
 unfolding addConnection
 added ns cs none new p = let z : _≡_ {A = ℕ} 0 1 = cc in absurd (omega arith)
 added ns cs (some c) new p =
@@ -118,7 +120,8 @@ step-connection ns ws k {cs} {new} s p =
     let r = s .is in
     record {
       is = a .is ∙ cc;
-      accepted = (subst₂ (λ (c : Connection) (l : List Connection). addConnection ns l (some c) ≡ good (c ∷ l)) (e .is) (s .is) (a .accepted), s .accepted);
+      accepted =
+          (subst₂ (λ (c : Connection) (l : List Connection). addConnection ns l (some c) ≡ good (c ∷ l)) (e .is) (s .is) (a .accepted), s .accepted);
       room = omega (arith, e .room);
     }
 
@@ -185,7 +188,8 @@ step-node ws k {ns} {new} s p =
     let a = node-added ns (nodeEntry ws k) new p in
     let e = node-entry ws k (a .node) (a .entry) in
     let size : length ns ≡ k = ap length (s .is) ∙ length-nodes k ws in
-    let low : allBelow k (childrenIn ws k) ≡ true = ap (λ (x : Node). allBelow k (x .kids)) (e .is) ∙ ap (λ (m : ℕ). allBelow m (a .node .kids)) (sym size) ∙ a .lower in
+    let low : allBelow k (childrenIn ws k) ≡ true =
+    ap (λ (x : Node). allBelow k (x .kids)) (e .is) ∙ ap (λ (m : ℕ). allBelow m (a .node .kids)) (sym size) ∙ a .lower in
     record {
       is = a .is ∙ ap (λ (x : Node). ns ++ (x ∷ [])) (sym (e .is)) ∙ ap (λ (l : List Node). l ++ (nodeAt ws k ∷ [])) (s .is);
       stand = record {
@@ -213,7 +217,8 @@ nodes ws zero ns p =
     }
 nodes ws (suc k) ns p = go (nodesTo ws k) refl (nodes ws k)
   where
-    go : (j : Judged (List Node)) → nodesTo ws k ≡ j → ((older : List Node) → nodesTo ws k ≡ good older → Nodes ws k older) → Nodes ws (suc k) ns
+    go : (j : Judged (List Node)) → nodesTo ws k ≡ j → ((older : List Node) → nodesTo ws k ≡ good older → Nodes ws k older) →
+        Nodes ws (suc k) ns
     go (good older) q rec = step-node ws k (rec older q) (sym (one-more addNode (nodeEntry ws) [] k q) ∙ p)
     go (bad n) q rec =
         let z : _≡_ {A = ℕ} 0 1 = cc (first-bad addNode (nodeEntry ws) [] k (suc k) n (omega arith) q) in
@@ -274,7 +279,8 @@ module _ {ns : List Node} {conns parents : List ℕ} {age : ℕ} (few : length n
         sofar = o .next;
         ages =
             e ∙ ap (λ (l : List ℕ). set l (cur (connectionIn conns age)) (age + 1)) (b .ages)
-            ∙ ap (set (agesOf (oldest age conns) nodeLimit) (cur (connectionIn conns age))) (add-one age ∙ ap suc (sym (length-oldest age conns)))
+            ∙ ap (set (agesOf (oldest age conns) nodeLimit) (cur (connectionIn conns age)))
+            (add-one age ∙ ap suc (sym (length-oldest age conns)))
             ∙ ages-more (connectionIn conns age) (oldest age conns) nodeLimit (o .small);
       }
 

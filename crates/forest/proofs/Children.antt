@@ -68,7 +68,8 @@ module _ {f : ℕ → ℕ → Bool} {ws : List ℕ} {a b n i : ℕ} (p : Pairs f
   pairs-done h = sym (ap₂ (pairsJoined f) (left-none ws a n i h) (left-none ws b n i h)) ∙ p .same
 
 -- unequal counts decide by themselves
-pub pairs-uneven : (f : ℕ → ℕ → Bool) (ws : List ℕ) (a b k m : ℕ) → (k ≡ m → ⊥) → pairsJoined f (wordsFrom ws a k) (wordsFrom ws b m) ≡ false
+pub pairs-uneven : (f : ℕ → ℕ → Bool) (ws : List ℕ) (a b k m : ℕ) → (k ≡ m → ⊥) →
+    pairsJoined f (wordsFrom ws a k) (wordsFrom ws b m) ≡ false
 unfolding pairsJoined wordsFrom
 pairs-uneven f ws a b zero zero h = absurd (h refl)
 pairs-uneven f ws a b zero (suc m) h = refl

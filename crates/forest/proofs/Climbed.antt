@@ -31,7 +31,8 @@ ends (h ∷ hs) = last (lastUp (h .conn) (h .up)) (ends hs)
 
 ends-append : (xs ys : List Hop) → ends (xs ++ ys) ≡ last (ends xs) (ends ys)
 ends-append [] ys = sym (last-none (ends ys))
-ends-append (x ∷ xs) ys = ap (last (lastUp (x .conn) (x .up))) (ends-append xs ys) ∙ sym (last-assoc (lastUp (x .conn) (x .up)) (ends xs) (ends ys))
+ends-append (x ∷ xs) ys =
+    ap (last (lastUp (x .conn) (x .up))) (ends-append xs ys) ∙ sym (last-assoc (lastUp (x .conn) (x .up)) (ends xs) (ends ys))
 
 abbrev End : List Hop → Last → Type 0
 End xs x = ends xs ≡ x

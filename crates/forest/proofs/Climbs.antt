@@ -8,6 +8,7 @@ use native.Mathlib.Omega.{arith}
 use native.Mathlib.Decide.{ℕ-discrete}
 use borrow.Author.Tests.{eq-eqb, ne-eqb}
 use lib.ListN.{length, getD}
+use Rattle.model.specs.Limits.{nodeLimit}
 use Rattle.model.specs.declared.Connection.{Connection}
 use Rattle.model.specs.Forest.{cur, nxt, root, joined, walk, top, below, parentOf}
 use Rattle.forest.specs.Hangs.{nextOf, depth, Forest}
@@ -117,7 +118,7 @@ module _ (cs : List Connection) (l r : ℕ) (f : Forest cs) (n : l ≡ r → ⊥
   meet-nowhere p q = meet-none cs l r (λ e. n (sym (depth-zero cs l f p) ∙ e ∙ depth-zero cs r f q))
 
 -- what a node's word in the table of parents says
-module _ {ps ws : List ℕ} {count n : ℕ} (s : Stands ps ws count) (b : n < 2048) where
+module _ {ps ws : List ℕ} {count n : ℕ} (s : Stands ps ws count) (b : n < nodeLimit) where
   pub none-next : getD ps n 0 ≡ 0 → nextOf (oldest count ws) n ≡ n
   unfolding nextOf
   none-next z = rw (age-top (oldest count ws) n (sym (s .agree n b) ∙ z))
@@ -135,26 +136,27 @@ module _ {ps ws : List ℕ} {count n : ℕ} (s : Stands ps ws count) (b : n < 20
   unfolding nextOf connectionIn
   some-next z = rw (aged z .by)
 
-  pub some-small : (getD ps n 0 ≡ 0 → ⊥) → getD ws ((getD ps n 0 - 1) * 5 + 1) 0 < 2048
+  pub some-small : (getD ps n 0 ≡ 0 → ⊥) → getD ws ((getD ps n 0 - 1) * 5 + 1) 0 < nodeLimit
   unfolding connectionIn
-  some-small z = within-parent 2048 (oldest count ws) n (s .within) (aged z .by)
+  some-small z = within-parent nodeLimit (oldest count ws) n (s .within) (aged z .by)
 
   pub some-depth : (getD ps n 0 ≡ 0 → ⊥) → depth (oldest count ws) n ≡ suc (depth (oldest count ws) (nextOf (oldest count ws) n))
   unfolding nextOf
   some-depth z = rw (aged z .by) (depth-below (oldest count ws) n (s .forest) (aged z .by))
 
-  pub depth-small : depth (oldest count ws) n ≤ 2048
+  pub depth-small : depth (oldest count ws) n ≤ nodeLimit
   depth-small = omega (arith, depth-le (oldest count ws) n (s .forest), length-oldest count ws, s .few)
 
 -- two climbs that have not met, with what is left of each
 pub record Climb (cs : List Connection) (l₀ r₀ l r dl dr : ℕ) : Type 0 where
-  pub left-in : l < 2048
-  pub right-in : r < 2048
+  pub left-in : l < nodeLimit
+  pub right-in : r < nodeLimit
   pub left-depth : dl ≡ depth cs l
   pub right-depth : dr ≡ depth cs r
   pub same : meetOf cs l r ≡ meetOf cs l₀ r₀
 
-module _ (cs : List Connection) (l₀ r₀ l r dl dr : ℕ) (f : Forest cs) (k : Climb cs l₀ r₀ l r dl dr) (n : l ≡ r → ⊥) (m : ℕ) (small : m < 2048) where
+module _ (cs : List Connection) (l₀ r₀ l r dl dr : ℕ) (f : Forest cs) (k : Climb cs l₀ r₀ l r dl dr) (n : l ≡ r → ⊥) (m : ℕ)
+    (small : m < nodeLimit) where
   pub right-up : dl < dr → m ≡ nextOf cs r → Climb cs l₀ r₀ l m dl (dr - 1)
   right-up h e =
       rw e record {

@@ -31,7 +31,8 @@ module _ {A : Type 0} (e : A) (_·_ : A → A → A) (step : List Connection →
   pub record Last (c : Connection) (older cs : List Connection) (r : ℕ) : Type 0 where
     pub down : X cs (nxt c) r ≡ step older (X older) c false · X cs (cur c) r
 
-  pub edge : {c : Connection} {older cs : List Connection} (r : ℕ) → Loose cs → In c older cs → root cs (cur c) ≡ root cs r → First c older cs r ⊎ Last c older cs r
+  pub edge : {c : Connection} {older cs : List Connection} (r : ℕ) → Loose cs → In c older cs → root cs (cur c) ≡ root cs r →
+      First c older cs r ⊎ Last c older cs r
   edge {c} {older} r f here j =
       ⊎-elim
       (λ q. inr (record {

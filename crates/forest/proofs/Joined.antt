@@ -59,7 +59,8 @@ root-linked (c ∷ cs) l r p =
     (λ u.
     through (linked-old (root-linked cs l (cur c) (u .left))) (through new (linked-old (root-linked cs (nxt c) r (sym (u .right))))))
     (λ u.
-    through (linked-old (root-linked cs l (nxt c) (u .left))) (through (back new) (linked-old (root-linked cs (cur c) r (sym (u .right)))))))
+    through (linked-old (root-linked cs l (nxt c) (u .left)))
+    (through (back new) (linked-old (root-linked cs (cur c) r (sym (u .right)))))))
     (split c cs l r p)
 
 pub joined-linked : (cs : List Connection) (l r : ℕ) → (joined cs l r ≡ true) ↔ Linked cs l r

@@ -102,10 +102,11 @@ pub supported-in : (n : ℕ) (ws : List ℕ) (cs : List Connection) (a b : ℕ) 
 unfolding supported
 supported-in n ws cs a b p q = rw (operator-in n ws a p, operator-in n ws b q, children-in n ws a p, children-in n ws b q) refl
 
-pub age-some : {ps ws : List ℕ} {count n : ℕ} → Stands ps ws count → n < 2048 → (getD ps n 0 ≡ 0 → ⊥) → isTop (parentOf (oldest count ws) n) ≡ false
+pub age-some : {ps ws : List ℕ} {count n : ℕ} → Stands ps ws count → n < nodeLimit → (getD ps n 0 ≡ 0 → ⊥) →
+    isTop (parentOf (oldest count ws) n) ≡ false
 age-some s b z = rw (aged s b z .by) refl
 
-pub age-none : {ps ws : List ℕ} {count n : ℕ} → Stands ps ws count → n < 2048 → getD ps n 0 ≡ 0 → parentOf (oldest count ws) n ≡ top
+pub age-none : {ps ws : List ℕ} {count n : ℕ} → Stands ps ws count → n < nodeLimit → getD ps n 0 ≡ 0 → parentOf (oldest count ws) n ≡ top
 age-none {ps} {ws} {count} {n} s b z = age-top (oldest count ws) n (sym (s .agree n b) ∙ z)
 
 -- an entry that is not there

@@ -4,6 +4,7 @@ use mathlib.Core.Path.{_≡_, refl, ap, ap₂, _∙_, subst, subst₂}
 use mathlib.Core.List.{List, [], _∷_, _++_}
 use native.Mathlib.Omega.{arith}
 use lib.ListN.{length, getD}
+use Rattle.model.specs.Limits.{nodeLimit, childLimit}
 use Rattle.model.specs.declared.Connection.{Connection}
 use Rattle.model.specs.Node.{Node}
 use Rattle.model.specs.Tables.{wordsFrom, nodeAt}
@@ -33,7 +34,7 @@ words-same ws vs at zero f = refl
 words-same ws vs at (suc n) f =
     ap₂ (λ (x : ℕ) (xs : List ℕ). x ∷ xs) (f at (omega arith)) (words-same ws vs (suc at) n (λ m h. f m (omega arith)))
 
-node-same : (ws vs : List ℕ) (n : ℕ) → countIn ws n ≤ 8 → Front (n * 10 + 10) ws vs → nodeAt ws n ≡ nodeAt vs n
+node-same : (ws vs : List ℕ) (n : ℕ) → countIn ws n ≤ childLimit → Front (n * 10 + 10) ws vs → nodeAt ws n ≡ nodeAt vs n
 unfolding nodeAt
 node-same ws vs n h f =
     let e = f (n * 10 + 1) (omega arith) in
@@ -70,12 +71,13 @@ stands-kept {ps} {ws} {vs} {k} s f h =
       size = s .size;
       few = s .few;
       room = h;
-      within = subst (Within 2048) e (s .within);
+      within = subst (Within nodeLimit) e (s .within);
       forest = subst Forest e (s .forest);
       agree = λ m q. s .agree m q ∙ ap (λ (cs : List Connection). ageOf cs m) e;
     }
 
-pub supported-kept : {nodes nodes′ : List ℕ} {n : ℕ} {ws vs : List ℕ} {k : ℕ} → Supported nodes n ws k → Front (n * 10) nodes nodes′ → n * 10 ≤ length nodes′ →
+pub supported-kept : {nodes nodes′ : List ℕ} {n : ℕ} {ws vs : List ℕ} {k : ℕ} → Supported nodes n ws k → Front (n * 10) nodes nodes′ →
+    n * 10 ≤ length nodes′ →
     Front (k * 5) ws vs → Supported nodes′ n vs k
 supported-kept {nodes} {nodes′} {n} {ws} {vs} {k} s f h g =
     record {

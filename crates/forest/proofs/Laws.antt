@@ -52,7 +52,8 @@ pub root-old : (c : Connection) (cs : List Connection) (l r : ℕ) → root cs l
 unfolding root
 root-old c cs l r p = ap (λ x. cond (eqb x (root cs (cur c))) (root cs (nxt c)) x) p
 
-pub depth-old : (c : Connection) (cs : List Connection) (l r : ℕ) → root cs l ≡ root cs r → depth (c ∷ cs) l + depth cs r ≡ depth (c ∷ cs) r + depth cs l
+pub depth-old : (c : Connection) (cs : List Connection) (l r : ℕ) → root cs l ≡ root cs r →
+    depth (c ∷ cs) l + depth cs r ≡ depth (c ∷ cs) r + depth cs l
 depth-old c cs l r p =
     elim (ℕ-discrete (root cs l) (root cs (cur c))) [
       | yes q ↦ omega (arith, depth-hung c cs l q, depth-hung c cs r (sym p ∙ q))
@@ -106,7 +107,8 @@ depth-top (d ∷ cs) n f p =
     depth-kept d cs n (λ q. t .0 (sym a ∙ q ∙ b)) ∙ depth-top cs n (f .1) (t .1)
 
 -- a node is joined to its parent, which is one less deep
-pub root-below : (cs : List Connection) (n : ℕ) {c : Connection} {older : List Connection} → Forest cs → parentOf cs n ≡ below c older → root cs n ≡ root cs (nxt c)
+pub root-below : (cs : List Connection) (n : ℕ) {c : Connection} {older : List Connection} → Forest cs → parentOf cs n ≡ below c older →
+    root cs n ≡ root cs (nxt c)
 unfolding parentOf
 root-below [] n f p = absurd (no-parent p)
 root-below (d ∷ cs) n {c} f p =
@@ -115,7 +117,8 @@ root-below (d ∷ cs) n {c} f p =
     (λ w. root-old d cs n (nxt c) (root-below cs n (f .1) (w .from)))
     (parent-case d cs n p)
 
-pub depth-below : (cs : List Connection) (n : ℕ) {c : Connection} {older : List Connection} → Forest cs → parentOf cs n ≡ below c older → depth cs n ≡ suc (depth cs (nxt c))
+pub depth-below : (cs : List Connection) (n : ℕ) {c : Connection} {older : List Connection} → Forest cs → parentOf cs n ≡ below c older →
+    depth cs n ≡ suc (depth cs (nxt c))
 unfolding parentOf
 depth-below [] n f p = absurd (no-parent p)
 depth-below (d ∷ cs) n {c} f p =
@@ -164,7 +167,8 @@ module _ {A : Type 0} (e : A) (_·_ : A → A → A) (step : List Connection →
   pub walk-down : (c : Connection) (cs : List Connection) (l r : ℕ) → (root cs (cur c) ≡ root cs (nxt c) → ⊥) → Down c cs l r →
       W (c ∷ cs) l r ≡ W cs l (nxt c) · (step cs (W cs) c false · W cs (cur c) r)
   unfolding walk
-  walk-down c cs l r h d = rw (joined-no cs l r (λ q. h (sym (d .right) ∙ sym q ∙ d .left)), walk) (rw (joined-no cs l (cur c) (λ q. h (sym q ∙ d .left)), walk))
+  walk-down c cs l r h d =
+      rw (joined-no cs l r (λ q. h (sym (d .right) ∙ sym q ∙ d .left)), walk) (rw (joined-no cs l (cur c) (λ q. h (sym q ∙ d .left)), walk))
 
   pub walk-self : (cs : List Connection) (n : ℕ) → W cs n n ≡ e
   unfolding walk
@@ -213,19 +217,22 @@ module _ {A : Type 0} (e : A) (_·_ : A → A → A) (step : List Connection →
       ∙ ap (λ x. x · (step cs (X cs) d true · X cs (nxt d) r))
       (climb-left cs l (cur d) (f .1) (w .from) (u .left) (omega (arith, depth-top cs (cur d) (f .1) (f .0 .free))) (w .there))
       ∙ assoc _ _ _
-      ∙ ap (λ x. step older (X older) c true · x) (sym (walk-up e _·_ step d cs (nxt c) r (f .0 .apart) (record { left = sym b ∙ u .left; right = u .right }))))
+      ∙ ap (λ x. step older (X older) c true · x)
+      (sym (walk-up e _·_ step d cs (nxt c) r (f .0 .apart) (record { left = sym b ∙ u .left; right = u .right }))))
       (λ u. let k = depth-hung d cs r (u .right) in
       let m = depth-kept d cs l (λ q. f .0 .apart (sym q ∙ u .left)) in
       walk-down e _·_ step d cs l r (f .0 .apart) u
       ∙ ap (λ x. x · (step cs (X cs) d false · X cs (cur d) r))
       (climb-left cs l (nxt d) (f .1) (w .from) (u .left) (omega arith) (λ q. omega (arith, ap (depth cs) q)))
       ∙ assoc _ _ _
-      ∙ ap (λ x. step older (X older) c true · x) (sym (walk-down e _·_ step d cs (nxt c) r (f .0 .apart) (record { left = sym b ∙ u .left; right = u .right })))))
+      ∙ ap (λ x. step older (X older) c true · x)
+      (sym (walk-down e _·_ step d cs (nxt c) r (f .0 .apart) (record { left = sym b ∙ u .left; right = u .right })))))
       (split d cs l r j))
       (parent-case d cs l p)
 
   -- and from the right
-  pub climb-right : (cs : List Connection) (l r : ℕ) {c : Connection} {older : List Connection} → Forest cs → parentOf cs r ≡ below c older →
+  pub climb-right : (cs : List Connection) (l r : ℕ) {c : Connection} {older : List Connection} → Forest cs →
+      parentOf cs r ≡ below c older →
       root cs l ≡ root cs r → depth cs l ≤ depth cs r → (l ≡ r → ⊥) → X cs l r ≡ X cs l (nxt c) · step older (X older) c false
   unfolding parentOf
   climb-right [] l r f p j h n = absurd (no-parent p)
@@ -255,12 +262,14 @@ module _ {A : Type 0} (e : A) (_·_ : A → A → A) (step : List Connection →
       ∙ ap (λ x. X cs l (cur d) · (step cs (X cs) d true · x))
       (climb-right cs (nxt d) r (f .1) (w .from) (sym (u .right)) (omega arith) (λ q. omega (arith, ap (depth cs) q)))
       ∙ regroup
-      ∙ ap (λ x. x · step older (X older) c false) (sym (walk-up e _·_ step d cs l (nxt c) (f .0 .apart) (record { left = u .left; right = sym b ∙ u .right }))))
+      ∙ ap (λ x. x · step older (X older) c false)
+      (sym (walk-up e _·_ step d cs l (nxt c) (f .0 .apart) (record { left = u .left; right = sym b ∙ u .right }))))
       (λ u. walk-down e _·_ step d cs l r (f .0 .apart) u
       ∙ ap (λ x. X cs l (nxt d) · (step cs (X cs) d false · x))
       (climb-right cs (cur d) r (f .1) (w .from) (sym (u .right)) (omega (arith, depth-top cs (cur d) (f .1) (f .0 .free))) (λ q. w .there (sym q)))
       ∙ regroup
-      ∙ ap (λ x. x · step older (X older) c false) (sym (walk-down e _·_ step d cs l (nxt c) (f .0 .apart) (record { left = u .left; right = sym b ∙ u .right })))))
+      ∙ ap (λ x. x · step older (X older) c false)
+      (sym (walk-down e _·_ step d cs l (nxt c) (f .0 .apart) (record { left = u .left; right = sym b ∙ u .right })))))
       (split d cs l r j))
       (parent-case d cs r p)
     where

@@ -22,7 +22,8 @@ place cs n f = go (parentOf cs n) refl
     go top q = high (root-top cs n f q) (depth-top cs n f q)
     go (below c o) q = low c o q (rw q) (depth-below cs n f q ∙ rw q)
 
-pub next-below : (cs : List Connection) (n : ℕ) {c : Connection} {older : List Connection} → parentOf cs n ≡ below c older → nextOf cs n ≡ nxt c
+pub next-below : (cs : List Connection) (n : ℕ) {c : Connection} {older : List Connection} → parentOf cs n ≡ below c older →
+    nextOf cs n ≡ nxt c
 unfolding nextOf
 next-below cs n p = rw p
 

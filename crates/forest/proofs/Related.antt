@@ -20,7 +20,8 @@ module _ {A B : Type 0} (a : A) (_·_ : A → A → A) (f : List Connection → 
   Steps [] = Unit {0}
   Steps (c ∷ cs) = ((u : Bool) → R (f cs (F cs) c u) (g cs (G cs) c u)) × Steps cs
 
-  one-more : (c : Connection) (cs : List Connection) (l r : ℕ) → ((u : Bool) → R (f cs (F cs) c u) (g cs (G cs) c u)) → ((x y : ℕ) → R (F cs x y) (G cs x y)) → R (F (c ∷ cs) l r) (G (c ∷ cs) l r)
+  one-more : (c : Connection) (cs : List Connection) (l r : ℕ) → ((u : Bool) → R (f cs (F cs) c u) (g cs (G cs) c u)) →
+      ((x y : ℕ) → R (F cs x y) (G cs x y)) → R (F (c ∷ cs) l r) (G (c ∷ cs) l r)
   unfolding walk
   one-more c cs l r s h = go (joined cs l r) refl (joined cs l (cur c)) refl
     where

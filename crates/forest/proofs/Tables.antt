@@ -38,9 +38,11 @@ module _ (ws : List ℕ) (i : ℕ) {a b : ℕ} where
   connection-cong p q k = rw (k, p, q, add-zero) refl
 
   pub connection-rule : a ≡ getD ws (i * 5 + 0) 0 → b ≡ getD ws (i * 5 + 1) 0 → (getD ws (i * 5 + 2) 0 ≡ 0 → ⊥) → {r : ℕ} →
-      r ≡ getD ws (i * 5 + 3) 0 → {d : Direction} → d ≡ directionIn (getD ws (i * 5 + 4) 0) → made a b (byRule (record { 0 = r }) d) ≡ connectionIn ws i
+      r ≡ getD ws (i * 5 + 3) 0 → {d : Direction} → d ≡ directionIn (getD ws (i * 5 + 4) 0) → made a b
+      (byRule (record { 0 = r }) d) ≡ connectionIn ws i
   unfolding connectionIn
-  connection-rule p q k e g = rw (is-rule (getD ws (i * 5 + 2) 0) (getD ws (i * 5 + 3) 0) (getD ws (i * 5 + 4) 0) k, p, q, e, g, add-zero) refl
+  connection-rule p q k e g =
+      rw (is-rule (getD ws (i * 5 + 2) 0) (getD ws (i * 5 + 3) 0) (getD ws (i * 5 + 4) 0) k, p, q, e, g, add-zero) refl
 
 -- the k oldest connections are k, and the first k nodes are k, each as it stands in the table
 pub length-nodes : (k : ℕ) (ws : List ℕ) → length (firstNodes k ws) ≡ k
@@ -116,7 +118,8 @@ module _ (ws : List ℕ) (i : ℕ) where
   unfolding connectionEntry
   present-short h = rw (lt-leb _ _ h) refl
 
-  pub present-long : i * 5 + 5 ≤ length ws → {k r f : ℕ} → k ≡ getD ws (i * 5 + 2) 0 → r ≡ getD ws (i * 5 + 3) 0 → f ≡ getD ws (i * 5 + 4) 0 →
+  pub present-long : i * 5 + 5 ≤ length ws → {k r f : ℕ} → k ≡ getD ws (i * 5 + 2) 0 → r ≡ getD ws (i * 5 + 3) 0 →
+      f ≡ getD ws (i * 5 + 4) 0 →
       present (connectionEntry ws i) ≡ present (whyOf k r f)
   unfolding connectionEntry
   present-long h p q s = rw (le-leb _ _ h, p, q, s)

@@ -50,7 +50,8 @@ module _ {A : Type 0} (e : A) (_·_ : A → A → A) (step : List Connection →
     pub right : depth cs r ≡ j + depth cs (climbBy cs j r)
     pub whole : walk e _·_ step cs l r ≡ _·_ (ups cs i l) (downs cs j r)
 
-  pub hop-low : (cs : List Connection) (n : ℕ) (u : Bool) {c : Connection} {o : List Connection} → parentOf cs n ≡ below c o → hop cs n u ≡ step o (walk e _·_ step o) c u
+  pub hop-low : (cs : List Connection) (n : ℕ) (u : Bool) {c : Connection} {o : List Connection} → parentOf cs n ≡ below c o →
+      hop cs n u ≡ step o (walk e _·_ step o) c u
   unfolding hop
   hop-low cs n u p = rw p
 

@@ -53,7 +53,9 @@ connections-whole nodes n conns parents s p q =
     g .is ∙ ap good (t .is ∙ ap (λ (k : ℕ). oldest k conns) e) in
     let accepted : Accepted ns (oldest (length conns / 5) conns) = subst (λ (k : ℕ). Accepted ns (oldest k conns)) e (t .accepted) in
     record {
-      stand = stands ns parents conns (length conns / 5) accepted (omega (arith, length-nodes n nodes, s .few)) (omega (arith, t .room)) (q ∙ ap parentWords is);
+      stand =
+          stands ns parents conns (length conns / 5) accepted (omega (arith, length-nodes n nodes, s .few))
+          (omega (arith, t .room)) (q ∙ ap parentWords is);
       support = record { table = s; accepted = accepted };
       is = is;
     }
@@ -79,7 +81,8 @@ ages-of {parents} {conns} {count} s =
     let q : m < nodeLimit = omega (arith, s .size) in
     s .agree m q ∙ sym (ages-at (oldest count conns) nodeLimit m q))
 
-pub connection-stands : {nodes : List ℕ} {n : ℕ} {conns parents new : List ℕ} {count : ℕ} → Stands parents conns count → Supported nodes n conns count →
+pub connection-stands : {nodes : List ℕ} {n : ℕ} {conns parents new : List ℕ} {count : ℕ} → Stands parents conns count →
+    Supported nodes n conns count →
     Taken ≡ judgementOf (addConnection (firstNodes n nodes) (oldest count conns) (connectionEntry conns count)) →
     new ≡ set parents (cur (connectionIn conns count)) (count + 1) → Grown nodes n conns new count
 unfolding oldest

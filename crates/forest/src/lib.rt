@@ -14,6 +14,7 @@ ghost use lib.ListN.{length, getD};
 ghost use Rattle.forest.specs.Hangs.{depth, nextOf};
 ghost use Rattle.forest.specs.Tables.{Stands, NodesStand, Known, oldest, firstNodes, connectionIn, directionIn, countIn, childIn, childrenIn, supportIn, present, parentWords};
 ghost use Rattle.forest.specs.Meet.{meetOf};
+ghost use Rattle.model.specs.Limits.{nodeLimit, childLimit};
 ghost use Rattle.model.specs.Term.{sameOp};
 ghost use Rattle.model.specs.Judged.{judgementOf};
 ghost use Rattle.model.specs.Node.{allBelow, addNode};
@@ -22,6 +23,11 @@ ghost use Rattle.model.specs.Connect.{pairsJoined, addConnection};
 ghost use Rattle.model.specs.Tables.{nodeEntry, nodeTable, connectionEntry, connectionTable};
 ghost use mathlib.Core.Option.{some};
 ghost use lib.ListN.{set, replicate};
+
+// The limits of the tables: nodes, and children of a node.
+pub const NODE_LIMIT: usize = 2048;
+
+pub const CHILD_LIMIT: u16 = 8;
 
 // Where two climbs meet.
 pub enum Meeting {
@@ -88,8 +94,8 @@ pub fn parent_of(parents: &[u16], n: NodeNo) -> usize
 // The node that n's parent connection leads to, or n itself where it has none.
 pub fn next_of(parents: &[u16], conns: &[u16], count: usize, n: NodeNo) -> NodeNo
     requires { ⌜ Stands (now parents) (now conns) count ⌝ }
-    requires { ⌜ n .0 < 2048 ⌝ }
-    ensures { λ r. ⌜ (r .0 ≡ nextOf (oldest count (now (conns .entry))) (n .0)) × (r .0 < 2048) ⌝ }
+    requires { ⌜ n .0 < nodeLimit ⌝ }
+    ensures { λ r. ⌜ (r .0 ≡ nextOf (oldest count (now (conns .entry))) (n .0)) × (r .0 < nodeLimit) ⌝ }
 {
     let age = parent_of(parents, n);
     if age == 0 {
@@ -102,7 +108,7 @@ pub fn next_of(parents: &[u16], conns: &[u16], count: usize, n: NodeNo) -> NodeN
 // How many connections a climb from n takes.
 pub fn depth_of(parents: &[u16], conns: &[u16], count: usize, n: NodeNo) -> usize
     requires { ⌜ Stands (now parents) (now conns) count ⌝ }
-    requires { ⌜ n .0 < 2048 ⌝ }
+    requires { ⌜ n .0 < nodeLimit ⌝ }
     ensures { λ r. ⌜ r ≡ depth (oldest count (now (conns .entry))) (n .0) ⌝ }
 {
     let mut at = n;
@@ -117,7 +123,7 @@ pub fn depth_of(parents: &[u16], conns: &[u16], count: usize, n: NodeNo) -> usiz
 // Both ends climb by parent connections until they meet: the deeper one first, the left one where both are as deep.
 pub fn meet(parents: &[u16], conns: &[u16], count: usize, left: NodeNo, right: NodeNo) -> Meeting
     requires { ⌜ Stands (now parents) (now conns) count ⌝ }
-    requires { ⌜ (left .0 < 2048) × (right .0 < 2048) ⌝ }
+    requires { ⌜ (left .0 < nodeLimit) × (right .0 < nodeLimit) ⌝ }
     ensures { λ m. ⌜ m ≡ meetOf (oldest count (now (conns .entry))) (left .0) (right .0) ⌝ }
 {
     let mut l = left;
@@ -145,7 +151,7 @@ pub fn meet(parents: &[u16], conns: &[u16], count: usize, left: NodeNo, right: N
 // Whether connections join two nodes.
 pub fn linked(parents: &[u16], conns: &[u16], count: usize, left: NodeNo, right: NodeNo) -> bool
     requires { ⌜ Stands (now parents) (now conns) count ⌝ }
-    requires { ⌜ (left .0 < 2048) × (right .0 < 2048) ⌝ }
+    requires { ⌜ (left .0 < nodeLimit) × (right .0 < nodeLimit) ⌝ }
     ensures { λ r. ⌜ r ≡ joined (oldest count (now (conns .entry))) (left .0) (right .0) ⌝ }
 {
     let m = meet(parents, conns, count, left, right);
@@ -178,7 +184,7 @@ pub fn count_of(nodes: &[u16], n: NodeNo) -> usize
 }
 
 pub fn child_of(nodes: &[u16], n: NodeNo, i: usize) -> NodeNo
-    requires { ⌜ (n .0 * 10 + 10 ≤ length (now nodes)) × (i < 8) ⌝ }
+    requires { ⌜ (n .0 * 10 + 10 ≤ length (now nodes)) × (i < childLimit) ⌝ }
     ensures { λ r. ⌜ r .0 ≡ childIn (now (nodes .entry)) (n .0) i ⌝ }
 {
     NodeNo(word(nodes, wide(n.0) * 10 + 2, i))
@@ -279,7 +285,7 @@ pub fn judge_connection(
 
 // Whether the entry of an age is there whole and its fields are in their sets.
 fn entry_whole(conns: &[u16], age: usize) -> bool
-    requires { ⌜ age ≤ 2048 ⌝ }
+    requires { ⌜ age ≤ nodeLimit ⌝ }
     ensures { λ r. ⌜ r ≡ present (connectionEntry (now (conns .entry)) age) ⌝ }
 {
     let base = age * 5;
@@ -314,7 +320,7 @@ pub fn judge_entry(nodes: &[u16], n: usize, parents: &[u16], conns: &[u16], age:
 
 // Makes the connection of an age the parent of a node.
 pub fn hang(parents: &mut [u16], n: NodeNo, age: usize)
-    requires { ⌜ (n .0 < length (now parents)) × (age ≤ 2048) ⌝ }
+    requires { ⌜ (n .0 < length (now parents)) × (age ≤ nodeLimit) ⌝ }
     ensures { λ _. ⌜ now (parents .exit) ≡ set (now (parents .entry)) (n .0) (age + 1) ⌝ }
 {
     parents[wide(n.0)] = (age + 1) as u16;
@@ -333,7 +339,7 @@ fn clear(words: &mut [u16])
 // Judges a whole table of connections, and makes the table of parents that belongs to it.
 pub fn judge_connections(nodes: &[u16], n: usize, conns: &[u16], parents: &mut [u16]) -> Judgement
     requires { ⌜ NodesStand (now nodes) n ⌝ }
-    requires { ⌜ length (now parents) ≡ 2048 ⌝ }
+    requires { ⌜ length (now parents) ≡ nodeLimit ⌝ }
     ensures { λ r. ⌜ r ≡ judgementOf (connectionTable (firstNodes n (now (nodes .entry))) (now (conns .entry))) ⌝ }
     ensures { λ _. ⌜ now (parents .exit) ≡ parentWords (connectionTable (firstNodes n (now (nodes .entry))) (now (conns .entry))) ⌝ }
 {
@@ -353,7 +359,7 @@ pub fn judge_connections(nodes: &[u16], n: usize, conns: &[u16], parents: &mut [
 
 // Whether the children of a node have lower numbers than its own.
 fn children_below(nodes: &[u16], n: usize) -> bool
-    requires { ⌜ (n ≤ 2048) × (n * 10 + 10 ≤ length (now nodes)) × (countIn (now nodes) n ≤ 8) ⌝ }
+    requires { ⌜ (n ≤ nodeLimit) × (n * 10 + 10 ≤ length (now nodes)) × (countIn (now nodes) n ≤ childLimit) ⌝ }
     ensures { λ r. ⌜ r ≡ allBelow n (childrenIn (now (nodes .entry)) n) ⌝ }
 {
     let count = wide(word(nodes, n * 10, 1));
@@ -369,16 +375,16 @@ fn children_below(nodes: &[u16], n: usize) -> bool
 
 // Judges the entry of node n, behind the nodes before it.
 pub fn judge_node(nodes: &[u16], n: usize) -> Judgement
-    requires { ⌜ n ≤ 2048 ⌝ }
+    requires { ⌜ n ≤ nodeLimit ⌝ }
     ensures { λ r. ⌜ r ≡ judgementOf (addNode (firstNodes n (now (nodes .entry))) (nodeEntry (now (nodes .entry)) n)) ⌝ }
 {
     if nodes.len() < n * 10 + 10 {
         return Judgement::Faulty(2);
     }
-    if 8 < word(nodes, n * 10, 1) {
+    if CHILD_LIMIT < word(nodes, n * 10, 1) {
         return Judgement::Faulty(2);
     }
-    if 2048 <= n {
+    if NODE_LIMIT <= n {
         return Judgement::Faulty(3);
     }
     if children_below(nodes, n) {

@@ -12,7 +12,8 @@ use Rattle.costs.proofs.children_cost.Statement.{statement}
 use Rattle.costs.proofs.children_cost.Tie as tie
 
 abbrev Inv-loop : tie.InvT-loop
-Inv-loop nodes parents conns count costs age a b n sum₀ i₀ sum i = (n ≡ countIn nodes (a .0)) × Sums (weigh costs (oldest age conns)) nodes (a .0 * 10 + 2) (b .0 * 10 + 2) (countIn nodes (a .0)) i sum
+Inv-loop nodes parents conns count costs age a b n sum₀ i₀ sum i =
+    (n ≡ countIn nodes (a .0)) × Sums (weigh costs (oldest age conns)) nodes (a .0 * 10 + 2) (b .0 * 10 + 2) (countIn nodes (a .0)) i sum
 
 abbrev μ-loop : tie.MeasureT-loop
 μ-loop nodes parents conns count costs age a b n sum₀ i₀ sum i = n - i

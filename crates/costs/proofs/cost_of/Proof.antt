@@ -26,7 +26,9 @@ children-cost-requires : tie.Need-children-cost-requires
 children-cost-requires c κs =
     let s = c .before .before .before .before .before .before .before .before .before in
     let e = c .before .before .before .before .connection-at .ensures in
-    let t = twins (s .pre .1 .0) (s .args .age) (s .pre .1 .1 .0 .0) (sym (ap (λ (x : Connection). x .why) (c .before .before .before .before .connection-at .ensures)) ∙ c .enum-told2 .given .1) in (
+    let t =
+    twins (s .pre .1 .0) (s .args .age) (s .pre .1 .1 .0 .0)
+    (sym (ap (λ (x : Connection). x .why) (c .before .before .before .before .connection-at .ensures)) ∙ c .enum-told2 .given .1) in (
       s .pre .0,
       (
         filled-priced (s .pre .1 .1 .0 .1) (s .pre .1 .1 .1),
@@ -38,7 +40,8 @@ children-cost-requires c κs =
     )
 
 returns : tie.Need-returns
-returns c = ap held (sym (cost-rule _ _ _ (sym (ap (λ (x : Connection). x .why) (c .before .before .before .before .connection-at .ensures)) ∙ c .enum-told .given .1)))
+returns c =
+    ap held (sym (cost-rule _ _ _ (sym (ap (λ (x : Connection). x .why) (c .before .before .before .before .connection-at .ensures)) ∙ c .enum-told .given .1)))
 
 returns-2 : tie.Need-returns-2
 returns-2 c =
@@ -48,7 +51,8 @@ returns-2 c =
     c .children-cost .ensures
     ∙ ap (λ (x : Connection). held (sumPairs (weigh (a .costs .now) (oldest (a .age) (a .conns .now))) (childrenIn (a .nodes .now) (cur x)) (childrenIn (a .nodes .now) (nxt x))))
     (c .before .before .before .before .before .connection-at .ensures)
-    ∙ cost-cong (length (a .nodes .now) / 10) (a .nodes .now) (a .conns .now) (a .costs .now) (a .age) (sym (ap (λ (x : Connection). x .why) (c .before .before .before .before .before .connection-at .ensures)) ∙ c .before .enum-told2 .given .1)
+    ∙ cost-cong (length (a .nodes .now) / 10) (a .nodes .now) (a .conns .now) (a .costs .now) (a .age)
+    (sym (ap (λ (x : Connection). x .why) (c .before .before .before .before .before .connection-at .ensures)) ∙ c .before .enum-told2 .given .1)
     (current-here (s .pre .1 .0) (a .age) h) (next-here (s .pre .1 .0) (a .age) h) (s .pre .1 .1 .1)
 
 pub cost-of-spec : {M : Type 1} → statement M

@@ -14,7 +14,8 @@ use Rattle.costs.proofs.distance.Tie as tie
 -- what the table holds once it is filled
 full : (c : tie.Start) →
     let a = c .args in
-    Filled (nodesOf (a .nodes .now)) (a .conns .now) (filled (nodesOf (a .nodes .now)) (a .conns .now) (a .count) (a .costs .now)) (a .count)
+    Filled (nodesOf (a .nodes .now)) (a .conns .now)
+    (filled (nodesOf (a .nodes .now)) (a .conns .now) (a .count) (a .costs .now)) (a .count)
 full c = filled-each _ _ _ _ (c .pre .1 .1 .0)
 
 fill-costs-requires : tie.Need-fill-costs-requires
@@ -26,7 +27,8 @@ way-requires c κs =
     let e = c .before .before .before .fill-costs .ensures in (
       s .pre .0,
       (
-        filled-priced (omega (arith, ap length e, length-filled (nodesOf (s .args .nodes .now)) (s .args .conns .now) (s .args .count) (s .args .costs .now), s .pre .1 .1 .0))
+        filled-priced
+            (omega (arith, ap length e, length-filled (nodesOf (s .args .nodes .now)) (s .args .conns .now) (s .args .count) (s .args .costs .now), s .pre .1 .1 .0))
             (subst (λ (t : List ℕ). Filled (nodesOf (s .args .nodes .now)) (s .args .conns .now) t (s .args .count)) (sym e) (full s)),
         s .pre .1 .1 .1,
       ),
@@ -45,7 +47,8 @@ returns c =
     let e = c .before .before .before .before .before .fill-costs .ensures in (
       c .wide .ensures ∙ c .before .way .ensures
           ∙ ap (λ (t : List ℕ). held (weigh t (oldest (a .count) (a .conns .now)) (a .left .0) (a .right .0))) e
-          ∙ weigh-dist (nodesOf (a .nodes .now)) (a .conns .now) (filled (nodesOf (a .nodes .now)) (a .conns .now) (a .count) (a .costs .now)) (a .count) (a .left .0) (a .right .0) (full s),
+          ∙ weigh-dist (nodesOf (a .nodes .now)) (a .conns .now)
+          (filled (nodesOf (a .nodes .now)) (a .conns .now) (a .count) (a .costs .now)) (a .count) (a .left .0) (a .right .0) (full s),
       e,
     )
 

@@ -26,7 +26,8 @@ cost-of-requires : tie.Need-cost-of-requires Inv-loop μ-loop
 cost-of-requires c κs =
     let s = c .before .before .before .before .before .before .before in
     let l = c .before .before .loop in
-    let f = filled-each (nodesOf (s .args .nodes .now)) (s .args .conns .now) (l .age) (s .args .costs .now) (omega (arith, s .pre .1 .1)) in (
+    let f =
+    filled-each (nodesOf (s .args .nodes .now)) (s .args .conns .now) (l .age) (s .args .costs .now) (omega (arith, s .pre .1 .1)) in (
       s .pre .0,
       (
         s .pre .1 .0,
@@ -41,7 +42,8 @@ mul-costs : tie.Need-mul-costs Inv-loop μ-loop
 mul-costs c = omega (arith, long (c .before .before .before), c .before .before .before .before .before .before .before .before .pre .1 .1)
 
 slice-write-costs : tie.Need-slice-write-costs Inv-loop μ-loop
-slice-write-costs c = omega (arith, long (c .before .before .before), c .before .before .before .before .before .before .before .before .pre .1 .1)
+slice-write-costs c =
+    omega (arith, long (c .before .before .before), c .before .before .before .before .before .before .before .before .pre .1 .1)
 
 add-age : tie.Need-add-age Inv-loop μ-loop
 add-age c = omega arith

@@ -11,7 +11,8 @@ use Rattle.costs.proofs.way.Statement.{statement}
 use Rattle.costs.proofs.way.Tie as tie
 
 abbrev Inv-loop : tie.InvT-loop
-Inv-loop parents conns count costs bound l₀ r₀ dl₀ dr₀ sum₀ l r dl dr sum = Way parents conns count costs bound (l₀ .0) (r₀ .0) (l .0) (r .0) dl dr sum
+Inv-loop parents conns count costs bound l₀ r₀ dl₀ dr₀ sum₀ l r dl dr sum =
+    Way parents conns count costs bound (l₀ .0) (r₀ .0) (l .0) (r .0) dl dr sum
 
 abbrev μ-loop : tie.MeasureT-loop
 μ-loop parents conns count costs bound l₀ r₀ dl₀ dr₀ sum₀ l r dl dr sum = dl + dr
@@ -22,7 +23,8 @@ right-on : (c : tie.Then2 Inv-loop μ-loop) →
     Onward (a .parents .now) (a .conns .now) (a .count) (a .bound) (c .before .before .before .before .loop .r .0)
 right-on c =
     let s = c .before .before .before .before .before .before .before .before .before .before in
-    way-right-onward (s .pre .0) (s .pre .1 .1 .older) (c .before .before .before .before .loop .inv) (c .before .if1 .taken) (c .if2 .taken)
+    way-right-onward (s .pre .0) (s .pre .1 .1 .older) (c .before .before .before .before .loop .inv)
+    (c .before .if1 .taken) (c .if2 .taken)
 
 -- the left end has a parent among the older connections
 left-on : (c : tie.Else2 Inv-loop μ-loop) →

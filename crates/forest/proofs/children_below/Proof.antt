@@ -39,7 +39,9 @@ wide-requires-2 : tie.Need-wide-requires-2 Inv-loop μ-loop
 wide-requires-2 c κs = search needs
 
 returns : tie.Need-returns Inv-loop μ-loop
-returns c = lower-off (c .before .before .before .before .loop .inv .1) (omega arith) (omega (arith, c .before .wide2 .ensures, c .before .before .word2 .ensures))
+returns c =
+    lower-off (c .before .before .before .before .loop .inv .1) (omega arith)
+    (omega (arith, c .before .wide2 .ensures, c .before .before .word2 .ensures))
 
 add-i : tie.Need-add-i Inv-loop μ-loop
 add-i c = search needs
@@ -48,7 +50,8 @@ loop-less : tie.Need-loop-less Inv-loop μ-loop
 loop-less c = search needs
 
 loop-again : tie.Need-loop-again Inv-loop μ-loop
-loop-again c = (c .before .before .before .before .loop .inv .0, lower-next (c .before .before .before .before .loop .inv .1) (omega arith) (omega (arith, c .before .wide2 .ensures, c .before .before .word2 .ensures)))
+loop-again c =
+    (c .before .before .before .before .loop .inv .0, lower-next (c .before .before .before .before .loop .inv .1) (omega arith) (omega (arith, c .before .wide2 .ensures, c .before .before .word2 .ensures)))
 
 returns-2 : tie.Need-returns-2 Inv-loop μ-loop
 returns-2 c = lower-done (c .before .loop .inv .1) (omega arith)

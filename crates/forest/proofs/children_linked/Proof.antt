@@ -14,7 +14,8 @@ use Rattle.forest.proofs.children_linked.Statement.{statement}
 use Rattle.forest.proofs.children_linked.Tie as tie
 
 abbrev Inv-loop : tie.InvT-loop
-Inv-loop nodes parents conns count a b n i₀ i = (n ≡ countIn nodes (a .0)) × Pairs (joined (oldest count conns)) nodes (a .0 * 10 + 2) (b .0 * 10 + 2) (countIn nodes (a .0)) i
+Inv-loop nodes parents conns count a b n i₀ i =
+    (n ≡ countIn nodes (a .0)) × Pairs (joined (oldest count conns)) nodes (a .0 * 10 + 2) (b .0 * 10 + 2) (countIn nodes (a .0)) i
 
 abbrev μ-loop : tie.MeasureT-loop
 μ-loop nodes parents conns count a b n i₀ i = n - i
@@ -22,7 +23,8 @@ abbrev μ-loop : tie.MeasureT-loop
 -- both nodes have as many children
 even : (c : tie.After-count-of Inv-loop μ-loop) →
     let s = c .before .before .before .before .args in
-    pairsJoined (joined (oldest (s .count) (s .conns .now))) (childrenIn (s .nodes .now) (s .a .0)) (wordsFrom (s .nodes .now) (s .b .0 * 10 + 2) (countIn (s .nodes .now) (s .a .0)))
+    pairsJoined (joined (oldest (s .count) (s .conns .now))) (childrenIn (s .nodes .now) (s .a .0))
+    (wordsFrom (s .nodes .now) (s .b .0 * 10 + 2) (countIn (s .nodes .now) (s .a .0)))
     ≡ pairsJoined (joined (oldest (s .count) (s .conns .now))) (childrenIn (s .nodes .now) (s .a .0)) (childrenIn (s .nodes .now) (s .b .0))
 even c =
     let s = c .before .before .before .before in
@@ -58,7 +60,8 @@ returns c =
     let e : joined cs (childIn (s .nodes .now) (s .a .0) (c .before .before .before .before .before .loop .i)) (childIn (s .nodes .now) (s .b .0) (c .before .before .before .before .before .loop .i)) ≡ false =
     ap₂ (joined cs) (sym (c .before .before .before .child-of .ensures)) (sym (c .before .before .child-of2 .ensures))
     ∙ sym (c .before .linked .ensures) ∙ not-true _ (c .if1 .taken) in
-    pairs-off (c .before .before .before .before .before .loop .inv .1) (omega arith) e ∙ even (c .before .before .before .before .before .before)
+    pairs-off (c .before .before .before .before .before .loop .inv .1) (omega arith) e
+    ∙ even (c .before .before .before .before .before .before)
 
 add-i : tie.Need-add-i Inv-loop μ-loop
 add-i c = search needs

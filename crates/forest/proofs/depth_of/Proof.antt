@@ -3,6 +3,7 @@ use borrow.Author.Needs.{needs}
 use native.Mathlib.Omega.{arith}
 use Prim.Native.Nat.{ℕ, _+_, _-_, _<_, suc}
 use mathlib.Core.Path.{_≡_, sym, ap, _∙_}
+use Rattle.model.specs.Limits.{nodeLimit}
 use Rattle.forest.specs.Hangs.{depth}
 use Rattle.forest.specs.Tables.{oldest}
 use Rattle.forest.proofs.Climbs.{none-depth, some-depth, depth-small}
@@ -10,7 +11,8 @@ use Rattle.forest.proofs.depth_of.Statement.{statement}
 use Rattle.forest.proofs.depth_of.Tie as tie
 
 abbrev Inv-loop : tie.InvT-loop
-Inv-loop parents conns count at₀ steps₀ at steps = (at .0 < 2048) × (steps + depth (oldest count conns) (at .0) ≡ depth (oldest count conns) (at₀ .0))
+Inv-loop parents conns count at₀ steps₀ at steps =
+    (at .0 < nodeLimit) × (steps + depth (oldest count conns) (at .0) ≡ depth (oldest count conns) (at₀ .0))
 
 abbrev μ-loop : tie.MeasureT-loop
 μ-loop parents conns count at₀ steps₀ at steps = depth (oldest count conns) (at .0)
@@ -18,10 +20,12 @@ abbrev μ-loop : tie.MeasureT-loop
 -- a turn takes one step up
 falls : (c : tie.After-next-of Inv-loop μ-loop) →
     let a = c .before .before .before .before .before .before .args in
-    depth (oldest (a .count) (a .conns .now)) (c .before .before .before .loop .at .0) ≡ suc (depth (oldest (a .count) (a .conns .now)) (c .next-of .result .0))
+    depth (oldest (a .count) (a .conns .now)) (c .before .before .before .loop .at .0) ≡ suc
+    (depth (oldest (a .count) (a .conns .now)) (c .next-of .result .0))
 falls c =
     let s = c .before .before .before .before .before .before in
-    some-depth (s .pre .0) (c .before .before .before .loop .inv .0) (λ p. c .before .if1 .taken (c .before .before .parent-of .ensures ∙ p))
+    some-depth (s .pre .0) (c .before .before .before .loop .inv .0)
+    (λ p. c .before .if1 .taken (c .before .before .parent-of .ensures ∙ p))
     ∙ ap (λ (x : ℕ). suc (depth (oldest (s .args .count) (s .args .conns .now)) x)) (sym (c .next-of .ensures .0))
 
 loop-holds : tie.Need-loop-holds Inv-loop μ-loop

@@ -16,10 +16,12 @@ use Rattle.forest.proofs.judge_connection.Tie as tie
 many : (c : tie.Start) → length (firstNodes (c .args .n) (c .args .nodes .now)) ≡ c .args .n
 many c = length-nodes _ _
 
-current-in : (c : tie.Else2) → cur (c .before .before .before .before .before .before .before .before .before .args .c) < c .before .before .before .before .before .before .before .before .before .args .n
+current-in : (c : tie.Else2) →
+    cur (c .before .before .before .before .before .before .before .before .before .args .c) < c .before .before .before .before .before .before .before .before .before .args .n
 current-in c = omega (arith, c .before .before .before .wide .ensures)
 
-next-in : (c : tie.Else2) → nxt (c .before .before .before .before .before .before .before .before .before .args .c) < c .before .before .before .before .before .before .before .before .before .args .n
+next-in : (c : tie.Else2) →
+    nxt (c .before .before .before .before .before .before .before .before .before .args .c) < c .before .before .before .before .before .before .before .before .before .args .n
 next-in c = omega (arith, c .before .wide2 .ensures)
 
 -- no reason for 6 is left
@@ -32,7 +34,9 @@ placed c =
     record {
       current-in = omega (arith, many s, current-in two);
       next-in = omega (arith, many s, next-in two);
-      free = age-none (s .pre .1) (omega (arith, current-in two, s .pre .0 .few)) (sym (c .before .before .before .parent-of .ensures) ∙ c .before .before .if3 .left);
+      free =
+          age-none (s .pre .1) (omega (arith, current-in two, s .pre .0 .few))
+          (sym (c .before .before .before .parent-of .ensures) ∙ c .before .before .if3 .left);
       apart = sym (c .before .linked .ensures) ∙ c .if4 .left;
     }
 
@@ -46,7 +50,9 @@ wide-requires-2 : tie.Need-wide-requires-2
 wide-requires-2 c κs = search needs
 
 returns-2 : tie.Need-returns-2
-returns-2 c = out-next _ _ _ (omega (arith, many (c .before .before .before .before .before .before .before .before .before), c .before .before .before .wide .ensures)) (omega (arith, many (c .before .before .before .before .before .before .before .before .before), c .before .wide2 .ensures))
+returns-2 c =
+    out-next _ _ _
+    (omega (arith, many (c .before .before .before .before .before .before .before .before .before), c .before .before .before .wide .ensures)) (omega (arith, many (c .before .before .before .before .before .before .before .before .before), c .before .wide2 .ensures))
 
 parent-of-requires : tie.Need-parent-of-requires
 parent-of-requires c κs = omega (arith, current-in c)

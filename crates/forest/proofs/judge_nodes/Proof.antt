@@ -45,7 +45,9 @@ loop-less : tie.Need-loop-less Inv-loop μ-loop
 loop-less c = omega arith
 
 loop-again : tie.Need-loop-again Inv-loop μ-loop
-loop-again c = rw add-one (node-more _ _ (c .before .before .before .before .loop .inv) (sym (c .enum-told .given .1) ∙ c .before .before .judge-node .ensures))
+loop-again c =
+    rw add-one
+    (node-more _ _ (c .before .before .before .before .loop .inv) (sym (c .enum-told .given .1) ∙ c .before .before .judge-node .ensures))
 
 returns-2 : tie.Need-returns-2 Inv-loop μ-loop
 returns-2 c = ap judgementOf (sym (node-done _ _ (c .before .loop .inv) (c .loop-test .left)))

@@ -37,7 +37,9 @@ loop-less c = omega arith
 loop-again : tie.Need-loop-again Inv-loop μ-loop
 loop-again c =
     let l = c .before .before .before .before .before .loop in
-    right-up _ _ _ _ _ _ _ (c .before .before .before .before .before .before .before .before .before .before .pre .0 .forest) (l .inv) (c .before .before .if1 .left) _
+    right-up _ _ _ _ _ _ _
+    (c .before .before .before .before .before .before .before .before .before .before .pre .0 .forest) (l .inv)
+    (c .before .before .if1 .left) _
     (c .next-of .ensures .1) (c .before .if2 .taken) (c .next-of .ensures .0)
 
 next-of-requires-2 : tie.Need-next-of-requires-2 Inv-loop μ-loop
@@ -52,7 +54,9 @@ loop-less-2 c = omega arith
 loop-again-2 : tie.Need-loop-again-2 Inv-loop μ-loop
 loop-again-2 c =
     let l = c .before .before .before .before .before .before .loop in
-    left-up _ _ _ _ _ _ _ (c .before .before .before .before .before .before .before .before .before .before .before .pre .0 .forest) (l .inv) (c .before .before .before .if1 .left) _
+    left-up _ _ _ _ _ _ _
+    (c .before .before .before .before .before .before .before .before .before .before .before .pre .0 .forest) (l .inv)
+    (c .before .before .before .if1 .left) _
     (c .next-of2 .ensures .1) (c .before .before .if2 .left) (c .before .if3 .left) (c .next-of2 .ensures .0)
 
 returns : tie.Need-returns Inv-loop μ-loop

@@ -52,8 +52,10 @@ returns-3 : tie.Need-returns-3
 returns-3 c =
     let s = c .before .before .before .before .before .before .before .before .before .before .before .args in
     let e : sameOp (getD (s .nodes .now) (s .a .0 * 10) 0) (getD (s .nodes .now) (s .b .0 * 10) 0) ≡ true =
-    ap₂ sameOp (sym (c .before .before .before .before .before .before .before .operator-of .ensures)) (sym (c .before .before .before .before .before .before .operator-of2 .ensures))
-    ∙ sym (c .before .before .before .before .before .same-operator .ensures) ∙ not-false _ (c .before .before .before .before .if1 .left) in
+    ap₂ sameOp (sym (c .before .before .before .before .before .before .before .operator-of .ensures))
+    (sym (c .before .before .before .before .before .before .operator-of2 .ensures))
+    ∙ sym (c .before .before .before .before .before .same-operator .ensures)
+    ∙ not-false _ (c .before .before .before .before .if1 .left) in
     c .children-linked .ensures ∙ rw e refl
 
 pub supports-spec : {M : Type 1} → statement M
