@@ -1,74 +1,104 @@
--- Tables handed in whole: what the three judgements come to together.
+-- Tables handed in whole: what the three judgements come to together, and what accepted tables are.
 -- Assumes nothing.
-use Prim.Native.Nat.{ℕ, _+_, _/_}
+use Prim.Native.Nat.{ℕ, _/_}
 use mathlib.Core.List.{List}
-use mathlib.Core.Path.{_≡_, refl, sym, _∙_, ap}
+use mathlib.Core.Path.{_≡_, refl, sym, _∙_, ap, subst}
 use native.Mathlib.Omega.{arith}
-use lib.ListN.{length}
+use lib.ListN.{length, replicate}
 use Rattle.model.specs.declared.Connection.{Connection}
 use Rattle.model.specs.declared.Judgement.the-variants.{Taken, Faulty}
 use Rattle.model.specs.declared.Verdict.the-variants.{Rejected}
+use Rattle.model.specs.Limits.{nodeLimit}
 use Rattle.model.specs.Judged.{Judged, good, bad, judgementOf}
 use Rattle.model.specs.Rule.{Rule}
 use Rattle.model.specs.Node.{Node}
 use Rattle.model.specs.Query.{Tables}
 use Rattle.model.specs.Tables.{nodeTable, ruleTable, connectionTable, withNodes, withConnections, tables, verdictBy}
-use Rattle.forest.specs.Tables.{firstNodes, NodesStand}
+use Rattle.forest.specs.Tables.{firstNodes, oldest, parentWords}
 use Rattle.forest.proofs.Entries.{taken-good, faulty-bad}
-use Rattle.forest.proofs.Built.{nodes}
+use Rattle.forest.proofs.Whole.{NodesWhole, nodes-whole, ConnectionsWhole, connections-whole}
 use Rattle.rule_table.specs.Entries.{rulesIn}
 use Rattle.rule_table.proofs.Table.{table-accepted}
+use Rattle.explanation.specs.declared.Measured.the-variants.{Unmeasured}
+use Rattle.explanation.specs.Measure.{measureBy, parentsBy}
 
--- a table of accepted nodes has ten words for each
-pub record NodesAre (ws : List ℕ) : Type 0 where
-  pub are : nodeTable ws ≡ good (firstNodes (length ws / 10) ws)
-  pub stand : NodesStand ws (length ws / 10)
-
-pub nodes-are : (ws : List ℕ) → Taken ≡ judgementOf (nodeTable ws) → NodesAre ws
-unfolding nodeTable
-nodes-are ws t =
-    let g = taken-good _ t in
-    let w = nodes ws ((length ws + 9) / 10) (g .what) (g .is) in
-    let c : (length ws + 9) / 10 ≡ length ws / 10 = omega (arith, w .stand .room) in
-    record { are = g .is ∙ ap good (w .is ∙ ap (λ (k : ℕ). firstNodes k ws) c); stand = rw c at (w .stand) }
-
+-- a table that is refused, and nothing but zeros in the table of parents
 module _ (nws rws cws : List ℕ) where
-  pub bad-nodes : (n : ℕ) → Faulty n ≡ judgementOf (nodeTable nws) → Faulty n ≡ judgementOf (tables nws rws cws)
+  pub bad-nodes : (n : ℕ) → Faulty n ≡ judgementOf (nodeTable nws) → tables nws rws cws ≡ bad n
   unfolding tables
   bad-nodes n e = rw (faulty-bad (nodeTable nws) n e)
 
-  pub bad-rules : NodesAre nws → (n : ℕ) → Faulty n ≡ judgementOf (ruleTable rws) → Faulty n ≡ judgementOf (tables nws rws cws)
+  pub bad-rules : NodesWhole nws → (n : ℕ) → Faulty n ≡ judgementOf (ruleTable rws) → tables nws rws cws ≡ bad n
   unfolding tables
-  bad-rules a n e = rw (a .are, faulty-bad (ruleTable rws) n e)
+  bad-rules a n e = rw (a .is, faulty-bad (ruleTable rws) n e)
 
--- the last of the three tables
-last : (ns : List Node) (rs : List Rule) (j : Judged (List Connection)) → judgementOf j ≡ judgementOf (withConnections ns rs j)
-last ns rs (good cs) = refl
-last ns rs (bad n) = refl
+-- nodes and rules are accepted: the connections decide, and leave their parents
+pub record Decides (j : Judged (List Connection)) (t : Judged Tables) : Type 0 where
+  pub judged : judgementOf j ≡ judgementOf t
+  pub parents : parentWords j ≡ parentsBy t
 
--- nodes and rules are accepted: the connections decide
-pub connections-decide : (nws rws cws : List ℕ) → NodesAre nws → Taken ≡ judgementOf (ruleTable rws)
-    → judgementOf (connectionTable (firstNodes (length nws / 10) nws) cws) ≡ judgementOf (tables nws rws cws)
+last : (ns : List Node) (rs : List Rule) (j : Judged (List Connection)) → Decides j (withConnections ns rs j)
+last ns rs (good cs) = record { judged = refl; parents = refl }
+last ns rs (bad n) = record { judged = refl; parents = refl }
+
+pub connections-decide : (nws rws cws : List ℕ) → NodesWhole nws → Taken ≡ judgementOf (ruleTable rws)
+    → Decides (connectionTable (firstNodes (length nws / 10) nws) cws) (tables nws rws cws)
 unfolding tables
 connections-decide nws rws cws a b =
-    let g = taken-good (ruleTable rws) b in let ns = firstNodes (length nws / 10) nws in
-    rw (a .are, g .is) (last ns (g .what) (connectionTable ns cws))
+    let g = taken-good (ruleTable rws) b in
+    let ns = firstNodes (length nws / 10) nws in
+    rw (a .is, g .is) (last ns (g .what) (connectionTable ns cws))
 
--- accepted tables have their rules
-rules-by : (a : Judged (List Node)) (b : Judged (List Rule)) (c : List Node → Judged (List Connection)) (t : Tables) → withNodes a b c ≡ good t → b ≡ good (t .rules)
-rules-by (bad n) b c t e = let z : _≡_ {A = ℕ} 0 1 = cc in absurd (omega arith)
-rules-by (good ns) (bad n) c t e = let z : _≡_ {A = ℕ} 0 1 = cc in absurd (omega arith)
-rules-by (good ns) (good rs) c t e = go (c ns) e
+-- the parts of accepted tables
+pub record Parts (nws rws cws : List ℕ) (t : Tables) : Type 0 where
+  pub nodes : nodeTable nws ≡ good (t .nodes)
+  pub rules : ruleTable rws ≡ good (t .rules)
+  pub conns : connectionTable (t .nodes) cws ≡ good (t .conns)
+
+parts-by : (nws rws cws : List ℕ) (t : Tables) (a : Judged (List Node)) → nodeTable nws ≡ a → (b : Judged (List Rule)) → ruleTable rws ≡ b
+    → withNodes a b (λ ns. connectionTable ns cws) ≡ good t → Parts nws rws cws t
+parts-by nws rws cws t (bad n) p b q e = let z : _≡_ {A = ℕ} 0 1 = cc in absurd (omega arith)
+parts-by nws rws cws t (good ns) p (bad n) q e = let z : _≡_ {A = ℕ} 0 1 = cc in absurd (omega arith)
+parts-by nws rws cws t (good ns) p (good rs) q e = go (connectionTable ns cws) refl e
   where
-    go : (j : Judged (List Connection)) → withConnections ns rs j ≡ good t → good rs ≡ good (t .rules)
-    go (bad n) h = let z : _≡_ {A = ℕ} 0 1 = cc in absurd (omega arith)
-    go (good cs) h = let q : record { nodes = ns; rules = rs; conns = cs } ≡ t = cc in ap (λ (x : Tables). good (x .rules)) q
+    go : (c : Judged (List Connection)) → connectionTable ns cws ≡ c → withConnections ns rs c ≡ good t → Parts nws rws cws t
+    go (bad n) r h = let z : _≡_ {A = ℕ} 0 1 = cc in absurd (omega arith)
+    go (good cs) r h =
+        let w : record { nodes = ns; rules = rs; conns = cs } ≡ t = cc in
+        subst (Parts nws rws cws) w (record { nodes = p; rules = q; conns = r })
 
-pub rules-are : (nws rws cws : List ℕ) (t : Tables) → tables nws rws cws ≡ good t → rulesIn rws (length rws / 387) ≡ good (t .rules)
+pub parts : (nws rws cws : List ℕ) (t : Tables) → tables nws rws cws ≡ good t → Parts nws rws cws t
 unfolding tables
-rules-are nws rws cws t e =
-    table-accepted rws (t .rules) (rules-by (nodeTable nws) (ruleTable rws) (λ ns. connectionTable ns cws) t e)
+parts nws rws cws t e = parts-by nws rws cws t (nodeTable nws) refl (ruleTable rws) refl e
 
--- the checker's answer over tables
+-- what the checker and climbing want of them
+pub record Whole (nws rws cws parents : List ℕ) (t : Tables) : Type 0 where
+  pub rules : rulesIn rws (length rws / 387) ≡ good (t .rules)
+  pub nodes-whole : NodesWhole nws
+  pub connections-whole : ConnectionsWhole nws (length nws / 10) cws parents
+  pub nodes : t .nodes ≡ firstNodes (length nws / 10) nws
+  pub conns : t .conns ≡ oldest (length cws / 5) cws
+
+pub whole : (nws rws cws ps : List ℕ) (t : Tables) → tables nws rws cws ≡ good t → ps ≡ parentsBy (tables nws rws cws) → Whole nws rws cws ps t
+whole nws rws cws ps t e q =
+    let p = parts nws rws cws t e in
+    let a = nodes-whole nws (sym (ap judgementOf (p .nodes))) in
+    let ns : t .nodes ≡ firstNodes (length nws / 10) nws = (let x = a .is in let y = p .nodes in cc) in
+    let c : connectionTable (firstNodes (length nws / 10) nws) cws ≡ good (t .conns) = rw ns at (p .conns) in
+    let b =
+    connections-whole nws (length nws / 10) cws ps (a .stand) (sym (ap judgementOf c))
+    (q ∙ (ap parentsBy e ∙ sym (ap parentWords c))) in
+    record {
+      rules = table-accepted rws (t .rules) (p .rules);
+      nodes-whole = a;
+      connections-whole = b;
+      nodes = ns;
+      conns = (let x = b .is in cc);
+    }
+
+-- answers over tables that are refused
 pub refused : (j : Judged Tables) (ws : List ℕ) (n : ℕ) → Faulty n ≡ judgementOf j → Rejected n 0 ≡ verdictBy j ws
 refused j ws n e = sym (ap (λ (x : Judged Tables). verdictBy x ws) (faulty-bad j n e))
+
+pub unmeasured : (j : Judged Tables) (l r n : ℕ) → Faulty n ≡ judgementOf j → Unmeasured n ≡ measureBy j l r
+unmeasured j l r n e = sym (ap (λ (x : Judged Tables). measureBy x l r) (faulty-bad j n e))

@@ -1,8 +1,13 @@
 -- `explanation::judge_tables` meets its contract: the first bad table decides.
 -- Assumes nothing.
 use borrow.Author.Needs.{needs}
-use mathlib.Core.Path.{_≡_, refl, sym, _∙_}
-use Rattle.explanation.proofs.Whole.{NodesAre, nodes-are, bad-nodes, bad-rules, connections-decide}
+use Prim.Native.Nat.{ℕ}
+use mathlib.Core.Path.{_≡_, sym, ap, _∙_}
+use lib.ListN.{length, length-replicate}
+use Rattle.model.specs.Judged.{judgementOf}
+use Rattle.forest.proofs.Whole.{NodesWhole, nodes-whole}
+use Rattle.explanation.specs.Measure.{parentsBy}
+use Rattle.explanation.proofs.Whole.{bad-nodes, bad-rules, Decides, connections-decide}
 use Rattle.explanation.proofs.judge_tables.Statement.{statement}
 use Rattle.explanation.proofs.judge_tables.Tie as tie
 
@@ -15,8 +20,9 @@ enum-known-a c = search needs
 returns : tie.Need-returns
 returns c =
     let d = c .before in
-    let a = d .before .before .before .before .before .before .args in
-    bad-nodes (a .nodes .now) (a .rules .now) (a .connections .now) _ (sym (d .a .given .1) ∙ d .before .before .judge-nodes .ensures)
+    let s = d .before .before .before .before .before .before .before in
+    let e = bad-nodes (s .args .nodes .now) (s .args .rules .now) (s .args .connections .now) _ (sym (d .a .given .1) ∙ d .before .before .judge-nodes .ensures) in
+    (sym (ap judgementOf e), s .pre ∙ sym (ap parentsBy e))
 
 enum-told : tie.Need-enum-told
 enum-told c = search needs
@@ -28,34 +34,39 @@ enum-known-b : tie.Need-enum-known-b
 enum-known-b c = search needs
 
 -- the nodes are accepted
-nodes : (c : tie.After-enum-told) → NodesAre (c .before .before .before .before .before .before .args .nodes .now)
-nodes c = nodes-are _ (sym (c .enum-told .given .1) ∙ c .before .before .judge-nodes .ensures)
+nodes : (c : tie.After-enum-told) → NodesWhole (c .before .before .before .before .before .before .before .args .nodes .now)
+nodes c = nodes-whole _ (sym (c .enum-told .given .1) ∙ c .before .before .judge-nodes .ensures)
 
 returns-2 : tie.Need-returns-2
 returns-2 c =
     let d = c .before in
-    let e = d .before .before .before in
-    let a = e .before .before .before .before .before .before .args in
-    bad-rules (a .nodes .now) (a .rules .now) (a .connections .now) (nodes e) _ (sym (d .b .given .1) ∙ d .before .before .judge-rules .ensures)
+    let k = d .before .before .before in
+    let s = k .before .before .before .before .before .before .before in
+    let e = bad-rules (s .args .nodes .now) (s .args .rules .now) (s .args .connections .now) (nodes k) _ (sym (d .b .given .1) ∙ d .before .before .judge-rules .ensures) in
+    (sym (ap judgementOf e), s .pre ∙ sym (ap parentsBy e))
 
 enum-told-2 : tie.Need-enum-told-2
 enum-told-2 c = search needs
 
-slice-aggregate-judge-connections : tie.Need-slice-aggregate-judge-connections
-slice-aggregate-judge-connections c = search needs
-
 judge-connections-requires : tie.Need-judge-connections-requires
-judge-connections-requires c κs = (nodes (c .before .before .before .before) .stand, refl)
+judge-connections-requires c κs =
+    let k = c .before .before .before .before in
+    let s = k .before .before .before .before .before .before .before in
+    (nodes k .stand, ap length (s .pre) ∙ length-replicate {A = ℕ} 2048 0)
+
+same-length : tie.Need-same-length
+same-length c = search needs
 
 returns-3 : tie.Need-returns-3
 returns-3 c =
-    let d = c .before .before .before in
-    let e = d .before .before .before in
-    let a = e .before .before .before .before .before .before .args in
-    c .before .judge-connections .ensures .0
-    ∙ connections-decide (a .nodes .now) (a .rules .now) (a .connections .now) (nodes e) (sym (d .enum-told2 .given .1) ∙ d .before .before .judge-rules .ensures)
+    let j = c .before .before in
+    let d = j .before .before in
+    let k = d .before .before .before in
+    let a = k .before .before .before .before .before .before .before .args in
+    let w = connections-decide (a .nodes .now) (a .rules .now) (a .connections .now) (nodes k) (sym (d .enum-told2 .given .1) ∙ d .before .before .judge-rules .ensures) in
+    (j .judge-connections .ensures .0 ∙ w .judged, j .judge-connections .ensures .1 ∙ w .parents)
 
 pub judge-tables-spec : {M : Type 1} → statement M
 judge-tables-spec =
     tie.close
-    (tie.spec judge-nodes-requires enum-known-a returns enum-told judge-rules-requires enum-known-b returns-2 enum-told-2 slice-aggregate-judge-connections judge-connections-requires returns-3)
+    (tie.spec judge-nodes-requires enum-known-a returns enum-told judge-rules-requires enum-known-b returns-2 enum-told-2 judge-connections-requires same-length returns-3)

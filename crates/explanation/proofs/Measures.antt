@@ -1,0 +1,40 @@
+-- The distance of a pair, refusal by refusal.
+-- Assumes nothing.
+use Prim.Native.Nat.{ℕ, _≤_, _<_}
+use mathlib.Core.Bool.{true, false, _&&_}
+use mathlib.Core.Path.{_≡_, ap}
+use borrow.Author.Tests.{lt-ltb, le-ltb}
+use lib.Dec.{ltb}
+use lib.ListN.{length}
+use Rattle.model.specs.Limits.{distanceLimit}
+use Rattle.model.specs.Forest.{joined, dist}
+use Rattle.model.specs.Query.{Tables}
+use Rattle.explanation.specs.declared.Measured.the-variants.{Distance, Unmeasured}
+use Rattle.explanation.specs.Measure.{measure}
+
+module _ (t : Tables) (l r : ℕ) where
+  pub no-left : length (t .nodes) ≤ l → Unmeasured 8 ≡ measure t l r
+  unfolding measure
+  no-left h = rw (le-ltb l (length (t .nodes)) h)
+
+  module _ (in-left : l < length (t .nodes)) where
+    pub no-right : length (t .nodes) ≤ r → Unmeasured 8 ≡ measure t l r
+    unfolding measure
+    no-right h = rw (lt-ltb l (length (t .nodes)) in-left, le-ltb r (length (t .nodes)) h)
+
+    module _ (in-right : r < length (t .nodes)) where
+      pub apart : joined (t .conns) l r ≡ false → Unmeasured 9 ≡ measure t l r
+      unfolding measure
+      apart e = rw (lt-ltb l (length (t .nodes)) in-left, lt-ltb r (length (t .nodes)) in-right, e)
+
+      pub long : joined (t .conns) l r ≡ true → distanceLimit < dist (t .nodes) (t .conns) l r → Unmeasured 10 ≡ measure t l r
+      unfolding measure
+      long e h =
+          rw
+          (lt-ltb l (length (t .nodes)) in-left, lt-ltb r (length (t .nodes)) in-right, e, lt-ltb distanceLimit (dist (t .nodes) (t .conns) l r) h)
+
+      pub near : joined (t .conns) l r ≡ true → dist (t .nodes) (t .conns) l r ≤ distanceLimit → Distance (dist (t .nodes) (t .conns) l r) ≡ measure t l r
+      unfolding measure
+      near e h =
+          rw
+          (lt-ltb l (length (t .nodes)) in-left, lt-ltb r (length (t .nodes)) in-right, e, le-ltb distanceLimit (dist (t .nodes) (t .conns) l r) h)
