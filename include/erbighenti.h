@@ -12,4 +12,10 @@ uint16_t erbighenti_check(const uint16_t *nodes, size_t nodes_len, const uint16_
                           const uint16_t *connections, size_t connections_len, const uint16_t *words, size_t words_len,
                           uint64_t *value);
 
+/* The distance of two nodes over tables handed in whole. Returns document 01's number (2 to 10), 0 where there is a distance.
+   Behind `value` stands the distance, or 0 where it is refused. */
+uint16_t erbighenti_distance(const uint16_t *nodes, size_t nodes_len, const uint16_t *rules, size_t rules_len,
+                             const uint16_t *connections, size_t connections_len, uint16_t left, uint16_t right,
+                             uint64_t *value);
+
 #endif

@@ -44,6 +44,8 @@ int main(void)
             value = 77;
             if (head[0] == 1)
                 number = erbighenti_check(nodes, head[1], rules, head[2], connections, head[3], words, head[4], &value);
+            else if (head[0] == 2)
+                number = erbighenti_distance(nodes, head[1], rules, head[2], connections, head[3], (uint16_t)head[5], (uint16_t)head[6], &value);
         }
         printf("%u %llu %ld\n", number, (unsigned long long)value, clock() - began);
         free(nodes), free(rules), free(connections), free(words);
