@@ -104,6 +104,51 @@ class Forest:
         return sum(self.cost[age] for _, age, _ in self.path(left, right))
 
 
+    def flat_proof(self, left, right):
+        """The flat proof of a joined pair: a list of terms (operator, mark, rule, [children])."""
+        terms = [term_of(self.nodes, left)]
+        for (current, nxt, kind, rule, forward), _, up in self.path(left, right):
+            a, b = (current, nxt) if up else (nxt, current)
+            if kind == 1:
+                terms.append(term_of(self.nodes, b, 1 if bool(forward) == up else 2, rule))
+                continue
+            (op, xs), (_, ys) = self.nodes[a], self.nodes[b]
+            for i, (x, y) in enumerate(zip(xs, ys)):
+                # the children before are the right node's already, those behind still the left node's
+                before, behind = [term_of(self.nodes, k) for k in ys[:i]], [term_of(self.nodes, k) for k in xs[i + 1:]]
+                terms += [(op, 0, 0, before + [t] + behind) for t in self.flat_proof(x, y)[1:]]
+        return terms
+
+
+def term_of(nodes, n, mark=0, rule=0):
+    """A node's term, marked at its root or not."""
+    op, kids = nodes[n]
+    return op, mark, rule, [term_of(nodes, k) for k in kids]
+
+
+def term_words(term):
+    op, mark, rule, kids = term
+    return [op, len(kids), mark, rule] + [w for k in kids for w in term_words(k)]
+
+
+def term_text(term):
+    op, mark, rule, kids = term
+    text = '(' + ' '.join([f'o{op}'] + [term_text(k) for k in kids]) + ')' if kids else f'o{op}'
+    return f"({('Rewrite=>', 'Rewrite<=')[mark - 1]} r{rule} {text})" if mark else text
+
+
+def is_instance(nodes, rules, connection):
+    """Whether a connection is a congruence, or an instance of its listed rule."""
+    current, nxt, kind, number, forward = connection
+    if kind == 0:
+        return True
+    rule = next((r for r in rules if r[0] == number), None)
+    first = term_words(term_of(nodes, current))
+    words = first + term_words(term_of(nodes, nxt))
+    ends = (0, len(first)) if forward else (len(first), 0)
+    return rule is not None and fits(rule, words, *ends)
+
+
 def judge_tables(nodes, rules, connections):
     judge_nodes(nodes)
     judge_rules(rules)
