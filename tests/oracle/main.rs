@@ -2,6 +2,9 @@
 //! docs/ORACLE.md says how it was made. explain.rs is egg's text, egg.rs has a substitute for each item that it takes from elsewhere,
 //! explain/seam.rs is the way in, and this file reads lines and prints answers.
 //!
+//! With the word `union` as argument the forest is built by egg's own `union`, which turns trees round, instead of from the connections
+//! as they are given. What is joined, and by what, is the same then, and so must be every answer.
+//!
 //! Tables are believed: nothing is judged. A query prints `distance D` and each flat term on a line of its own (the distance alone
 //! where it is above 4,095, since the flat proof may then be too large to hold); an offered proof prints `passes`, `fails`
 //! (a step is found to be none) or `panics: WHY`; a query on which egg panics prints `panics: WHY` too.
@@ -70,13 +73,20 @@ fn pattern(frame: &mut Frame, nodes: &mut Vec<ENodeOrVar<Node>>) -> Id {
 fn side(frame: &mut Frame) -> Pattern<Node> {
     let mut nodes = vec![];
     pattern(frame, &mut nodes);
-    Pattern { ast: RecExpr { nodes } }
+    Pattern {
+        ast: RecExpr { nodes },
+    }
 }
 
 fn rule(frame: &mut Frame) -> Rewrite<Node, ()> {
     let name = Symbol('r', frame.number());
     let (searcher, applier) = (side(frame), side(frame));
-    Rewrite { name, searcher, applier, analysis: std::marker::PhantomData }
+    Rewrite {
+        name,
+        searcher,
+        applier,
+        analysis: std::marker::PhantomData,
+    }
 }
 
 fn connection(frame: &mut Frame) -> (Id, Id, Justification, bool) {
@@ -92,8 +102,16 @@ fn connection(frame: &mut Frame) -> (Id, Id, Justification, bool) {
 
 /// One term of an offered proof. A node's own children play no part in a flat term, but their number does: `matches` compares it.
 fn offered_term(frame: &mut Frame) -> FlatTerm<Node> {
-    let (op, count, mark, rule) = (operator(frame.number()), frame.byte(), frame.byte(), frame.number());
-    let node = Node { op, children: vec![Id::from(0); usize::from(count)] };
+    let (op, count, mark, rule) = (
+        operator(frame.number()),
+        frame.byte(),
+        frame.byte(),
+        frame.number(),
+    );
+    let node = Node {
+        op,
+        children: vec![Id::from(0); usize::from(count)],
+    };
     let mut term = FlatTerm::new(node, vec![]);
     match mark {
         0 => assert!(rule == 0, "an unmarked node with a rule"),
@@ -117,14 +135,24 @@ fn caught<T>(f: impl FnOnce() -> T) -> Result<T, String> {
     })
 }
 
-fn answer(tables: &Tables, left: Id, right: Id) -> String {
+fn forest_of(tables: &Tables) -> Explain<Node> {
+    let by_union = std::env::args().any(|word| word == "union");
     let mut forest = Explain::base();
     for node in &tables.nodes {
         forest.plant(node.clone());
     }
     for (current, next, why, forward) in tables.connections.iter().cloned() {
-        forest.connect(current, next, why, forward);
+        match (by_union, forward) {
+            (false, _) => forest.connect(current, next, why, forward),
+            (true, true) => forest.union(current, next, why),
+            (true, false) => forest.union(next, current, why),
+        }
     }
+    forest
+}
+
+fn answer(tables: &Tables, left: Id, right: Id) -> String {
+    let mut forest = forest_of(tables);
     let distance = match caught(|| forest.distance(&tables.nodes, left, right)) {
         Ok(distance) => distance,
         Err(why) => return format!("panics: {}\n", why),
@@ -133,11 +161,24 @@ fn answer(tables: &Tables, left: Id, right: Id) -> String {
     if distance > num_bigint::BigUint::small(4095) {
         return out;
     }
-    let text = |terms: &[FlatTerm<Node>]| terms.iter().map(|t| t.to_string() + "\n").collect::<String>();
-    match caught(|| (forest.flat(&tables.nodes, left, right), forest.flat_unoptimized(&tables.nodes, left, right))) {
+    let text = |terms: &[FlatTerm<Node>]| {
+        terms
+            .iter()
+            .map(|t| t.to_string() + "\n")
+            .collect::<String>()
+    };
+    match caught(|| {
+        (
+            forest.flat(&tables.nodes, left, right),
+            forest.flat_unoptimized(&tables.nodes, left, right),
+        )
+    }) {
         Ok((terms, plain)) => {
             // with shortening off the two ways to a path must agree
-            assert!(text(&terms) == text(&plain), "get_path and get_path_unoptimized differ");
+            assert!(
+                text(&terms) == text(&plain),
+                "get_path and get_path_unoptimized differ"
+            );
             out += &text(&terms)
         }
         Err(why) => out += &format!("panics: {}\n", why),
@@ -146,7 +187,10 @@ fn answer(tables: &Tables, left: Id, right: Id) -> String {
 }
 
 fn verdict(tables: &Tables, words: Vec<u8>) -> String {
-    let mut frame = Frame { bytes: words, at: 0 };
+    let mut frame = Frame {
+        bytes: words,
+        at: 0,
+    };
     let mut terms = vec![];
     while !frame.ends() {
         match caught(|| offered_term(&mut frame)) {
@@ -156,7 +200,9 @@ fn verdict(tables: &Tables, words: Vec<u8>) -> String {
     }
     match caught(|| Explanation::offered(terms).check_proof(&tables.rules)) {
         Ok(()) => "passes\n".to_string(),
-        Err(why) if why.starts_with("assertion failed: self.check_rewrite_at") => "fails\n".to_string(),
+        Err(why) if why.starts_with("assertion failed: self.check_rewrite_at") => {
+            "fails\n".to_string()
+        }
         Err(why) => format!("panics: {}\n", why),
     }
 }
@@ -164,7 +210,10 @@ fn verdict(tables: &Tables, words: Vec<u8>) -> String {
 fn run(input: &str) -> String {
     let (mut tables, mut words, mut out) = (Tables::default(), vec![], String::new());
     for line in input.lines() {
-        let pairs = line.as_bytes().chunks(2).map(|p| std::str::from_utf8(p).unwrap());
+        let pairs = line
+            .as_bytes()
+            .chunks(2)
+            .map(|p| std::str::from_utf8(p).unwrap());
         let bytes = pairs.map(|p| u8::from_str_radix(p, 16).unwrap()).collect();
         let mut frame = Frame { bytes, at: 0 };
         match frame.byte() {
@@ -179,8 +228,11 @@ fn run(input: &str) -> String {
             6 => out += &verdict(&tables, std::mem::take(&mut words)),
             kind => panic!("no frame of kind {}", kind),
         }
-        // the table 01 to 03 and 04 frames are read to their end
-        assert!(frame.bytes[0] > 4 || frame.ends(), "a frame of wrong length");
+        // frames of tables and queries are read to their end
+        assert!(
+            frame.bytes[0] > 4 || frame.ends(),
+            "a frame of wrong length"
+        );
     }
     out
 }
@@ -189,13 +241,15 @@ fn main() {
     let mut input = String::new();
     std::io::stdin().read_to_string(&mut input).unwrap();
     // egg recurses over terms and nodes
-    let work = std::thread::Builder::new().stack_size(1 << 29).spawn(move || {
-        let loud = std::panic::take_hook();
-        std::panic::set_hook(Box::new(|_| ()));
-        let out = catch_unwind(|| run(&input));
-        std::panic::set_hook(loud);
-        out
-    });
+    let work = std::thread::Builder::new()
+        .stack_size(1 << 29)
+        .spawn(move || {
+            let loud = std::panic::take_hook();
+            std::panic::set_hook(Box::new(|_| ()));
+            let out = catch_unwind(|| run(&input));
+            std::panic::set_hook(loud);
+            out
+        });
     match work.unwrap().join().unwrap() {
         Ok(out) => print!("{}", out),
         Err(_) => {
