@@ -4,11 +4,10 @@ use Prim.Native.Nat.{ℕ, _/_}
 use mathlib.Core.List.{List}
 use mathlib.Core.Path.{_≡_, refl, sym, _∙_, ap, subst}
 use native.Mathlib.Omega.{arith}
-use lib.ListN.{length, replicate}
+use lib.ListN.{length}
 use Rattle.model.specs.declared.Connection.{Connection}
 use Rattle.model.specs.declared.Judgement.the-variants.{Taken, Faulty}
 use Rattle.model.specs.declared.Verdict.the-variants.{Rejected}
-use Rattle.model.specs.Limits.{nodeLimit}
 use Rattle.model.specs.Judged.{Judged, good, bad, judgementOf}
 use Rattle.model.specs.Rule.{Rule}
 use Rattle.model.specs.Node.{Node}
