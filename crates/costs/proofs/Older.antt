@@ -45,7 +45,10 @@ kept k (suc m) ws l r h p =
     elim (ℕ-discrete k (suc m)) [
       | yes e ↦ rw e record { joins = rw e at p; deeper = omega arith }
       | no e ↦ let i = kept k m ws l r (omega arith) p in
-          record { joins = root-old (connectionIn ws m) (oldest m ws) l r (i .joins); deeper = omega (arith, i .deeper, depth-old (connectionIn ws m) (oldest m ws) l r (i .joins)) }
+          record {
+            joins = root-old (connectionIn ws m) (oldest m ws) l r (i .joins);
+            deeper = omega (arith, i .deeper, depth-old (connectionIn ws m) (oldest m ws) l r (i .joins));
+          }
     ]
 
 -- a parent connection is one of those listed
