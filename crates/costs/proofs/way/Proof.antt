@@ -7,7 +7,8 @@ use mathlib.Core.Path.{_≡_, sym, ap, _∙_}
 use lib.ListN.{getD}
 use Rattle.forest.specs.Tables.{oldest}
 use Rattle.costs.specs.Costs.{held, weigh}
-use Rattle.costs.proofs.Older.{Onward, Way, way-right-onward, way-left-onward, way-right, way-left, weigh-self}
+use Rattle.forest.proofs.Older.{Onward}
+use Rattle.costs.proofs.Climbing.{Way, way-right-onward, way-left-onward, way-right, way-left, weigh-self}
 use Rattle.costs.proofs.way.Statement.{statement}
 use Rattle.costs.proofs.way.Tie as tie
 

@@ -1,7 +1,8 @@
 -- A climb between nodes that older connections join, by the table of all connections.
+-- A congruence asks for older paths, and there is one table of parents: an older parent connection is still the node's.
 use Prim.Native.Nat.{ℕ, zero, suc, _+_, _-_, _≤_, _<_}
 use mathlib.Core.Path.{_≡_, refl, sym, ap, _∙_}
-use native.Mathlib.Nat.{add-assoc, zero-add, add-zero}
+use mathlib.Core.Bool.{Bool, true, false}
 use mathlib.Core.List.{List}
 use mathlib.Core.Logic.{⊎-elim}
 use native.Mathlib.Omega.{arith}
@@ -9,14 +10,15 @@ use native.Mathlib.Decide.{ℕ-discrete}
 use lib.ListN.{length, getD}
 use Rattle.model.specs.Limits.{nodeLimit}
 use Rattle.model.specs.declared.Connection.{Connection}
-use Rattle.model.specs.Forest.{nxt, root, below, parentOf}
+use Rattle.model.specs.Forest.{nxt, root, walk, below, parentOf}
 use Rattle.forest.specs.Hangs.{nextOf, depth, Forest}
 use Rattle.forest.specs.Tables.{connectionIn, oldest, Stands}
-use Rattle.forest.proofs.Laws.{parent-old, parent-case, no-parent, depth-below, depth-old, root-below, root-old, depth-zero, climb-left, climb-right, walk-self}
-use Rattle.forest.proofs.Places.{Place, high, low, place, next-below, depth-next}
+use Rattle.forest.proofs.Laws.{parent-old, parent-case, no-parent, depth-below, depth-old, root-below, root-old, depth-zero, climb-left, climb-right}
+use Rattle.forest.proofs.Places.{Place, high, low, place, next-below}
 use Rattle.forest.proofs.Climbs.{aged, age-top, length-oldest}
-use Rattle.costs.specs.Costs.{costCap, held, weigh}
+use Rattle.forest.proofs.Ways.{climbBy}
 
+-- the older connections are a forest, and a node that has a parent among them keeps it
 pub forest-older : (k m : ℕ) (ws : List ℕ) → k ≤ m → Forest (oldest m ws) → Forest (oldest k ws)
 unfolding oldest
 forest-older k zero ws h f = let e : k ≡ 0 = omega arith in rw e f
@@ -34,6 +36,7 @@ stays k (suc m) ws n h f p =
           parent-old (connectionIn ws m) (oldest m ws) n (λ q. no-parent (sym (f .0 .free) ∙ ap (parentOf (oldest m ws)) (sym q) ∙ i)) ∙ i
     ]
 
+-- nodes that older connections join stay joined, at the same difference of depths
 pub record Kept (k m : ℕ) (ws : List ℕ) (l r : ℕ) : Type 0 where
   pub joins : root (oldest m ws) l ≡ root (oldest m ws) r
   pub deeper : depth (oldest m ws) l + depth (oldest k ws) r ≡ depth (oldest m ws) r + depth (oldest k ws) l
@@ -79,15 +82,15 @@ module _ {ps ws : List ℕ} {count bound : ℕ} (s : Stands ps ws count) (h : bo
   f = forest-older bound count ws h (s .forest)
 
   -- the deeper of two nodes has a parent among the older connections
-  pub record Hung (n : ℕ) : Type 0 where
+  pub record Hanging (n : ℕ) : Type 0 where
     pub by : parentOf cs n ≡ below (connectionIn ws (getD ps n 0 - 1)) (oldest (getD ps n 0 - 1) ws)
     pub next : nextOf all n ≡ nxt (connectionIn ws (getD ps n 0 - 1))
     pub onward : Onward ps ws count bound n
 
-  pub hung : (n m : ℕ) → n < nodeLimit → root cs n ≡ root cs m → depth all m ≤ depth all n → (n ≡ m → ⊥) → Hung n
-  hung n m small j d e = go (place cs n f)
+  pub hanging : (n m : ℕ) → n < nodeLimit → root cs n ≡ root cs m → depth all m ≤ depth all n → (n ≡ m → ⊥) → Hanging n
+  hanging n m small j d e = go (place cs n f)
     where
-      go : Place cs n → Hung n
+      go : Place cs n → Hanging n
       go (high p q) = absurd (e (sym p ∙ j ∙ depth-zero cs m f (omega (arith, kept bound count ws n m h j .deeper))))
       go (low c o p q t) =
           let up = stays bound count ws n h (s .forest) p in
@@ -108,80 +111,52 @@ module _ {ps ws : List ℕ} {count bound : ℕ} (s : Stands ps ws count) (h : bo
             };
           }
 
-  module _ (costs : List ℕ) (l r : ℕ) (j : root cs l ≡ root cs r) (e : l ≡ r → ⊥) where
+  module _ (l r : ℕ) (j : root cs l ≡ root cs r) (e : l ≡ r → ⊥) where
     pub left-onward : l < nodeLimit → depth all r ≤ depth all l → Onward ps ws count bound l
-    left-onward small d = hung l r small j d e .onward
+    left-onward small d = hanging l r small j d e .onward
 
     pub right-onward : r < nodeLimit → depth all l ≤ depth all r → Onward ps ws count bound r
-    right-onward small d = hung r l small (sym j) d (λ q. e (sym q)) .onward
+    right-onward small d = hanging r l small (sym j) d (λ q. e (sym q)) .onward
 
-    pub left-weigh : l < nodeLimit → depth all r ≤ depth all l →
-        weigh costs cs l r ≡ getD costs (getD ps l 0 - 1) 0 + weigh costs cs (nextOf all l) r
-    unfolding weigh
-    left-weigh small d =
-        let g = hung l r small j d e in
-        climb-left 0 _+_ (λ older _ c u. getD costs (length older) 0) add-assoc zero-add add-zero cs l r f (g .by) j
-        (omega (arith, kept bound count ws l r h j .deeper)) e
-        ∙ rw (g .next, length-oldest) refl
+    -- the walk over the older connections, step by step up the table of all of them
+    module _
+        {A : Type 0}
+        (u : A)
+        (_·_ : A → A → A)
+        (step : List Connection → (ℕ → ℕ → A) → Connection → Bool → A)
+        (assoc : (a b c : A) → _·_ (_·_ a b) c ≡ _·_ a (_·_ b c))
+        (unit-l : (a : A) → _·_ u a ≡ a)
+        (unit-r : (a : A) → _·_ a u ≡ a) where
+      -- the parent connection of a node, by its age, walked up or down
+      abbrev pub hopAt : ℕ → Bool → A
+      hopAt n up =
+          let a = getD ps n 0 - 1 in
+          step (oldest a ws) (walk u _·_ step (oldest a ws)) (connectionIn ws a) up
 
-    pub right-weigh : r < nodeLimit → depth all l ≤ depth all r →
-        weigh costs cs l r ≡ weigh costs cs l (nextOf all r) + getD costs (getD ps r 0 - 1) 0
-    unfolding weigh
-    right-weigh small d =
-        let g = hung r l small (sym j) d (λ q. e (sym q)) in
-        climb-right 0 _+_ (λ older _ c u. getD costs (length older) 0) add-assoc zero-add add-zero cs l r f (g .by) j
-        (omega (arith, kept bound count ws l r h j .deeper)) e
-        ∙ rw (g .next, length-oldest) refl
+      pub left-walk : l < nodeLimit → depth all r ≤ depth all l →
+          walk u _·_ step cs l r ≡ _·_ (hopAt l true) (walk u _·_ step cs (nextOf all l) r)
+      left-walk small d =
+          let g = hanging l r small j d e in
+          climb-left u _·_ step assoc unit-l unit-r cs l r f (g .by) j (omega (arith, kept bound count ws l r h j .deeper)) e
+          ∙ ap (λ (m : ℕ). _·_ (hopAt l true) (walk u _·_ step cs m r)) (sym (g .next))
 
--- two climbs, and what they have cost so far
-pub record Way (ps ws : List ℕ) (count : ℕ) (costs : List ℕ) (bound l₀ r₀ l r dl dr sum : ℕ) : Type 0 where
-  pub left-in : l < nodeLimit
-  pub right-in : r < nodeLimit
-  pub left-depth : dl ≡ depth (oldest count ws) l
-  pub right-depth : dr ≡ depth (oldest count ws) r
-  pub same : root (oldest bound ws) l ≡ root (oldest bound ws) r
-  pub small : sum ≤ costCap
-  pub total : held (sum + weigh costs (oldest bound ws) l r) ≡ held (weigh costs (oldest bound ws) l₀ r₀)
+      pub right-walk : r < nodeLimit → depth all l ≤ depth all r →
+          walk u _·_ step cs l r ≡ _·_ (walk u _·_ step cs l (nextOf all r)) (hopAt r false)
+      right-walk small d =
+          let g = hanging r l small (sym j) d (λ q. e (sym q)) in
+          climb-right u _·_ step assoc unit-l unit-r cs l r f (g .by) j (omega (arith, kept bound count ws l r h j .deeper)) e
+          ∙ ap (λ (m : ℕ). _·_ (walk u _·_ step cs l m) (hopAt r false)) (sym (g .next))
 
-module _ {ps ws : List ℕ} {count : ℕ} {costs : List ℕ} {bound l₀ r₀ l r dl dr sum : ℕ} (s : Stands ps ws count) (h : bound ≤ count)
-    (w : Way ps ws count costs bound l₀ r₀ l r dl dr sum) (e : l ≡ r → ⊥) where
-  pub way-right-onward : dl < dr → Onward ps ws count bound r
-  way-right-onward d = right-onward s h costs l r (w .same) e (w .right-in) (omega (arith, w .left-depth, w .right-depth))
-
-  pub way-left-onward : dr ≤ dl → Onward ps ws count bound l
-  way-left-onward d = left-onward s h costs l r (w .same) e (w .left-in) (omega (arith, w .left-depth, w .right-depth))
-
-  module _ (m t : ℕ) (small : m < nodeLimit) where
-    pub way-right : dl < dr → m ≡ nextOf (oldest count ws) r → t ≡ held (sum + getD costs (getD ps r 0 - 1) 0) →
-        Way ps ws count costs bound l₀ r₀ l m dl (dr - 1) t
-    way-right d q z =
-        let o = way-right-onward d in
-        let k = right-weigh s h costs l r (w .same) e (w .right-in) (omega (arith, w .left-depth, w .right-depth)) in
-        rw q record {
-          left-in = w .left-in;
-          right-in = rw q at small;
-          left-depth = w .left-depth;
-          right-depth = omega (arith, w .right-depth, depth-next (oldest count ws) r (s .forest) (o .deep));
-          same = w .same ∙ sym (o .near);
-          small = omega (arith, z);
-          total = omega (arith, z, k, w .total);
-        }
-
-    pub way-left : dr ≤ dl → m ≡ nextOf (oldest count ws) l → t ≡ held (sum + getD costs (getD ps l 0 - 1) 0) →
-        Way ps ws count costs bound l₀ r₀ m r (dl - 1) dr t
-    way-left d q z =
-        let o = way-left-onward d in
-        let k = left-weigh s h costs l r (w .same) e (w .left-in) (omega (arith, w .left-depth, w .right-depth)) in
-        rw q record {
-          left-in = rw q at small;
-          right-in = w .right-in;
-          left-depth = omega (arith, w .left-depth, depth-next (oldest count ws) l (s .forest) (o .deep));
-          right-depth = w .right-depth;
-          same = o .near ∙ w .same;
-          small = omega (arith, z);
-          total = omega (arith, z, k, w .total);
-        }
-
-pub weigh-self : (costs : List ℕ) (cs : List Connection) (n : ℕ) → weigh costs cs n n ≡ 0
-unfolding weigh
-weigh-self costs cs n = walk-self 0 _+_ (λ older _ c u. getD costs (length older) 0) cs n
+-- a climb by older connections is a climb by all of them
+pub climb-kept : (i k m : ℕ) (ws : List ℕ) (n : ℕ) → k ≤ m → Forest (oldest m ws) → i ≤ depth (oldest k ws) n →
+    climbBy (oldest m ws) i n ≡ climbBy (oldest k ws) i n
+unfolding climbBy
+climb-kept zero k m ws n h f b = refl
+climb-kept (suc i) k m ws n h f b = go (place (oldest k ws) n (forest-older k m ws h f)) (λ x q. climb-kept i k m ws x h f q)
+  where
+    go : Place (oldest k ws) n → ((x : ℕ) → i ≤ depth (oldest k ws) x → climbBy (oldest m ws) i x ≡ climbBy (oldest k ws) i x) →
+        climbBy (oldest m ws) (suc i) n ≡ climbBy (oldest k ws) (suc i) n
+    go (high p q) rec = absurd (omega arith)
+    go (low c o p q t) rec =
+        let e : nextOf (oldest m ws) n ≡ nextOf (oldest k ws) n = next-below (oldest m ws) n (stays k m ws n h f p) ∙ sym q in
+        ap (climbBy (oldest m ws) i) e ∙ rec (nextOf (oldest k ws) n) (omega arith)
