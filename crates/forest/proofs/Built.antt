@@ -81,7 +81,7 @@ stands ns ps ws k a few room p =
     let f = accepted-forest ns (oldest k ws) a in
     record {
       size = ap length p ∙ length-ages (oldest k ws) nodeLimit;
-      few = omega (arith, connections-few (oldest k ws) nodeLimit f w, length-oldest k ws);
+      few = omega (arith, connections-few (oldest k ws) nodeLimit (omega arith) f w, length-oldest k ws);
       room = room;
       within = w;
       forest = f;

@@ -148,7 +148,7 @@ module _ {ps ws : List ℕ} {count n : ℕ} (s : Stands ps ws count) (b : n < no
   unfolding nextOf
   some-depth z = rw (aged z .by) (depth-below (oldest count ws) n (s .forest) (aged z .by))
 
-  pub depth-small : depth (oldest count ws) n ≤ nodeLimit
+  pub depth-small : depth (oldest count ws) n < nodeLimit
   depth-small = omega (arith, depth-le (oldest count ws) n (s .forest), length-oldest count ws, s .few)
 
 -- two climbs that have not met, with what is left of each

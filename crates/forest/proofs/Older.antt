@@ -72,14 +72,15 @@ pub record Onward (ps ws : List ℕ) (count bound n : ℕ) : Type 0 where
   pub near : root (oldest bound ws) (nextOf (oldest count ws) n) ≡ root (oldest bound ws) n
 
 module _ {ps ws : List ℕ} {count bound : ℕ} (s : Stands ps ws count) (h : bound ≤ count) where
-  abbrev pub cs : List Connection
+  -- the older connections, and all of them
+  abbrev cs : List Connection
   cs = oldest bound ws
 
-  abbrev pub all : List Connection
+  abbrev all : List Connection
   all = oldest count ws
 
-  pub f : Forest (oldest bound ws)
-  f = forest-older bound count ws h (s .forest)
+  hung : Forest (oldest bound ws)
+  hung = forest-older bound count ws h (s .forest)
 
   -- the deeper of two nodes has a parent among the older connections
   pub record Hanging (n : ℕ) : Type 0 where
@@ -88,10 +89,10 @@ module _ {ps ws : List ℕ} {count bound : ℕ} (s : Stands ps ws count) (h : bo
     pub onward : Onward ps ws count bound n
 
   pub hanging : (n m : ℕ) → n < nodeLimit → root cs n ≡ root cs m → depth all m ≤ depth all n → (n ≡ m → ⊥) → Hanging n
-  hanging n m small j d e = go (place cs n f)
+  hanging n m small j d e = go (place cs n hung)
     where
       go : Place cs n → Hanging n
-      go (high p q) = absurd (e (sym p ∙ j ∙ depth-zero cs m f (omega (arith, kept bound count ws n m h j .deeper))))
+      go (high p q) = absurd (e (sym p ∙ j ∙ depth-zero cs m hung (omega (arith, kept bound count ws n m h j .deeper))))
       go (low c o p q t) =
           let up = stays bound count ws n h (s .forest) p in
           let z : getD ps n 0 ≡ 0 → ⊥ = λ y. no-parent (sym (age-top all n (sym (s .agree n small) ∙ y)) ∙ up) in
@@ -107,7 +108,7 @@ module _ {ps ws : List ℕ} {count bound : ℕ} (s : Stands ps ws count) (h : bo
               some = omega arith;
               age = omega (arith, ap length oo, length-oldest (getD ps n 0 - 1) ws);
               deep = omega (arith, depth-below all n (s .forest) up);
-              near = ap (root cs) nx ∙ ap (λ (x : Connection). root cs (nxt x)) (sym co) ∙ sym (root-below cs n f p);
+              near = ap (root cs) nx ∙ ap (λ (x : Connection). root cs (nxt x)) (sym co) ∙ sym (root-below cs n hung p);
             };
           }
 
@@ -137,14 +138,14 @@ module _ {ps ws : List ℕ} {count bound : ℕ} (s : Stands ps ws count) (h : bo
           walk u _·_ step cs l r ≡ _·_ (hopAt l true) (walk u _·_ step cs (nextOf all l) r)
       left-walk small d =
           let g = hanging l r small j d e in
-          climb-left u _·_ step assoc unit-l unit-r cs l r f (g .by) j (omega (arith, kept bound count ws l r h j .deeper)) e
+          climb-left u _·_ step assoc unit-l unit-r cs l r hung (g .by) j (omega (arith, kept bound count ws l r h j .deeper)) e
           ∙ ap (λ (m : ℕ). _·_ (hopAt l true) (walk u _·_ step cs m r)) (sym (g .next))
 
       pub right-walk : r < nodeLimit → depth all l ≤ depth all r →
           walk u _·_ step cs l r ≡ _·_ (walk u _·_ step cs l (nextOf all r)) (hopAt r false)
       right-walk small d =
           let g = hanging r l small (sym j) d (λ q. e (sym q)) in
-          climb-right u _·_ step assoc unit-l unit-r cs l r f (g .by) j (omega (arith, kept bound count ws l r h j .deeper)) e
+          climb-right u _·_ step assoc unit-l unit-r cs l r hung (g .by) j (omega (arith, kept bound count ws l r h j .deeper)) e
           ∙ ap (λ (m : ℕ). _·_ (walk u _·_ step cs l m) (hopAt r false)) (sym (g .next))
 
 -- a climb by older connections is a climb by all of them

@@ -40,7 +40,7 @@ abbrev pub Lowest : List Connection → ℕ → ℕ → ℕ → ℕ → Type 0
 Lowest cs l r i j = (a b : ℕ) → a ≤ depth cs l → b ≤ depth cs r → climbBy cs a l ≡ climbBy cs b r → (i ≤ a) × (j ≤ b)
 
 lowest-left : (cs : List Connection) (l r i j : ℕ) → Forest cs → depth cs r ≤ depth cs l → (l ≡ r → ⊥) →
-  depth cs l ≡ suc (depth cs (nextOf cs l)) → Lowest cs (nextOf cs l) r i j → Lowest cs l r (suc i) j
+    depth cs l ≡ suc (depth cs (nextOf cs l)) → Lowest cs (nextOf cs l) r i j → Lowest cs l r (suc i) j
 unfolding climbBy
 lowest-left cs l r i j f h n d m zero b p q e =
     let k = depth-climb b cs r f q in
@@ -50,7 +50,7 @@ lowest-left cs l r i j f h n d m zero b p q e =
 lowest-left cs l r i j f h n d m (suc a) b p q e = let k = m a b (omega arith) q e in (omega arith, k .1)
 
 lowest-right : (cs : List Connection) (l r i j : ℕ) → Forest cs → depth cs l < depth cs r →
-  depth cs r ≡ suc (depth cs (nextOf cs r)) → Lowest cs l (nextOf cs r) i j → Lowest cs l r i (suc j)
+    depth cs r ≡ suc (depth cs (nextOf cs r)) → Lowest cs l (nextOf cs r) i j → Lowest cs l r i (suc j)
 unfolding climbBy
 lowest-right cs l r i j f h d m a zero p q e =
     let k = depth-climb a cs l f p in

@@ -90,7 +90,7 @@ hang-requires c κs =
     let l = standing (c .before .before .before .before .before .before .before) in
     let a = accepted (c .before .before) in
     let e = ap (λ (x : Connection). cur x) (c .connection-at .ensures) in
-    (omega (arith, a .small, l .size, e), l .few)
+    (omega (arith, a .small, l .size, e), omega (arith, l .few))
 
 add-age : tie.Need-add-age Inv-loop μ-loop
 add-age c =
