@@ -15,7 +15,8 @@ use Rattle.model.specs.Query.{Tables}
 use Rattle.model.specs.Tables.{nodeTable, ruleTable, connectionTable, withNodes, withConnections, tables, verdictBy}
 use Rattle.forest.specs.Tables.{firstNodes, oldest, parentWords}
 use Rattle.forest.proofs.Entries.{taken-good, faulty-bad}
-use Rattle.forest.proofs.Whole.{NodesWhole, nodes-whole, ConnectionsWhole, connections-whole}
+use Rattle.forest.specs.Whole.{NodesWhole, ConnectionsWhole}
+use Rattle.forest.proofs.Whole.{nodes-whole, connections-whole}
 use Rattle.rule_table.specs.Entries.{rulesIn}
 use Rattle.rule_table.proofs.Table.{table-accepted}
 use Rattle.explanation.specs.declared.Measured.the-variants.{Unmeasured}

@@ -17,15 +17,11 @@ use Rattle.model.specs.Tables.{nodeAt, nodeEntry, nodeTable, connectionEntry, c
 use Rattle.forest.specs.Hangs.{Accepted}
 use Rattle.forest.specs.Tables.{connectionIn, oldest, firstNodes, agesOf, parentWords, NodesStand, Stands, Supported}
 use Rattle.forest.proofs.Accept.{sound}
+use Rattle.forest.specs.Whole.{NodesWhole, ConnectionsWhole}
 use Rattle.forest.proofs.Climbs.{length-oldest}
 use Rattle.forest.proofs.Tables.{length-nodes}
 use Rattle.forest.proofs.Entries.{taken-good}
 use Rattle.forest.proofs.Built.{added-some, Nodes, nodes, step-node, connections, step-connection, stands, length-ages, ages-at, ages-more}
-
--- a table of nodes that was accepted
-pub record NodesWhole (ws : List ℕ) : Type 0 where
-  pub stand : NodesStand ws (length ws / 10)
-  pub is : nodeTable ws ≡ good (firstNodes (length ws / 10) ws)
 
 pub nodes-whole : (ws : List ℕ) → Taken ≡ judgementOf (nodeTable ws) → NodesWhole ws
 unfolding nodeTable
@@ -34,12 +30,6 @@ nodes-whole ws p =
     let t = nodes ws ((length ws + 9) / 10) (g .what) (g .is) in
     let e : (length ws + 9) / 10 ≡ length ws / 10 = omega (arith, t .stand .room) in
     record { stand = subst (NodesStand ws) e (t .stand); is = g .is ∙ ap good (t .is ∙ ap (λ (k : ℕ). firstNodes k ws) e) }
-
--- a table of connections that was accepted over n nodes, with the table of parents that judging leaves
-pub record ConnectionsWhole (nodes : List ℕ) (n : ℕ) (conns parents : List ℕ) : Type 0 where
-  pub stand : Stands parents conns (length conns / 5)
-  pub support : Supported nodes n conns (length conns / 5)
-  pub is : connectionTable (firstNodes n nodes) conns ≡ good (oldest (length conns / 5) conns)
 
 pub connections-whole : (nodes : List ℕ) (n : ℕ) (conns parents : List ℕ) → NodesStand nodes n →
     Taken ≡ judgementOf (connectionTable (firstNodes n nodes) conns) →

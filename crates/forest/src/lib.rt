@@ -1,13 +1,17 @@
 // Connections and the nodes they join: the tables judged, and where two climbs meet.
 // Tables are lent as words, a node 10 and a connection 5. A table of parents has a word for each node: the age of its
 // parent connection, and 1, or 0 where it has none.
+use model::CHILD_LIMIT;
 use model::Connection;
 use model::Direction;
 use model::Judgement;
 use model::Justification;
+use model::NODE_LIMIT;
 use model::NodeNo;
 use model::OpNo;
 use model::RuleNo;
+use terms::same_op;
+use terms::wide;
 ghost use mathlib.Core.Path.{_≡_};
 ghost use Prim.Native.Nat.{_+_, _*_, _<_, _≤_};
 ghost use lib.ListN.{length, getD, set, replicate};
@@ -23,22 +27,10 @@ ghost use Rattle.model.specs.Connect.{pairsJoined, addConnection};
 ghost use Rattle.model.specs.Tables.{nodeEntry, nodeTable, connectionEntry, connectionTable};
 ghost use mathlib.Core.Option.{some};
 
-// The limits of the tables: nodes, and children of a node.
-pub const NODE_LIMIT: usize = 2048;
-
-pub const CHILD_LIMIT: u16 = 8;
-
 // Where two climbs meet.
 pub enum Meeting {
     At(NodeNo),
     Nowhere,
-}
-
-// A word as a number of places.
-pub fn wide(x: u16) -> usize
-    ensures { λ r. ⌜ r ≡ x ⌝ }
-{
-    x as usize
 }
 
 // A word of an entry that starts at a base.
@@ -162,13 +154,6 @@ pub fn linked(parents: &[u16], conns: &[u16], count: usize, left: NodeNo, right:
     }
 }
 
-// What makes two nodes the same operator.
-pub fn same_operator(a: OpNo, b: OpNo) -> bool
-    ensures { λ r. ⌜ r ≡ sameOp (a .0) (b .0) ⌝ }
-{
-    a.0 == b.0
-}
-
 // A node's operator.
 pub fn operator_of(nodes: &[u16], n: NodeNo) -> OpNo
     requires { ⌜ n .0 * 10 + 10 ≤ length (now nodes) ⌝ }
@@ -237,7 +222,7 @@ fn supports(
     requires { ⌜ Known (now nodes) (a .0) × Known (now nodes) (b .0) ⌝ }
     ensures { λ r. ⌜ r ≡ supportIn (now (nodes .entry)) (oldest count (now (conns .entry))) (a .0) (b .0) ⌝ }
 {
-    if !same_operator(operator_of(nodes, a), operator_of(nodes, b)) {
+    if !same_op(operator_of(nodes, a), operator_of(nodes, b)) {
         return false;
     }
     if count_of(nodes, a) != count_of(nodes, b) {

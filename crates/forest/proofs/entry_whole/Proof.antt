@@ -1,6 +1,5 @@
 -- `forest::entry_whole` meets its contract: whether the entry's words are there, then whether its fields are in their sets, by its kind.
 use borrow.Author.Needs.{needs}
-use Prim.Native.Nat.{_-_}
 use mathlib.Core.Path.{_≡_, sym, _∙_}
 use Rattle.model.specs.Tables.{whyOf, connectionEntry}
 use Rattle.forest.specs.Tables.{present}

@@ -1,7 +1,7 @@
 -- `forest::judge_connection` meets its contract: the reasons for 6 in turn, then the support of a congruence.
 use borrow.Author.Needs.{needs}
 use native.Mathlib.Omega.{arith}
-use Prim.Native.Nat.{_-_, _<_}
+use Prim.Native.Nat.{_<_}
 use mathlib.Core.Path.{_≡_, sym, _∙_}
 use lib.ListN.{length}
 use mathlib.Core.Bool.{true, false}

@@ -2,7 +2,7 @@
 -- when both are at the top.
 use borrow.Author.Needs.{needs}
 use native.Mathlib.Omega.{arith}
-use Prim.Native.Nat.{_+_, _-_}
+use Prim.Native.Nat.{_+_}
 use mathlib.Core.Path.{refl, sym, ap, _∙_}
 use Rattle.forest.specs.Tables.{oldest}
 use Rattle.forest.specs.Meet.{meetOf}
