@@ -90,10 +90,9 @@ module _ {A : Type 0} (e : A) (_·_ : A → A → A) (step : List Connection →
   hop-low cs n u p = rw p
 
   module _ (assoc : (a b c : A) → _·_ (_·_ a b) c ≡ _·_ a (_·_ b c)) (unit-l : (a : A) → _·_ e a ≡ a) (unit-r : (a : A) → _·_ a e ≡ a) where
-    meets-by : (d : ℕ) (cs : List Connection) (l r : ℕ) → Forest cs → root cs l ≡ root cs r → depth cs l + depth cs r ≤ d → Meets cs l r
+    meets-here : (cs : List Connection) (l r : ℕ) → l ≡ r → Meets cs l r
     unfolding climbBy ups downs
-    meets-by zero cs l r f j h =
-        let q : l ≡ r = sym (depth-zero cs l f (omega arith)) ∙ j ∙ depth-zero cs r f (omega arith) in
+    meets-here cs l r q =
         record {
           i = 0;
           j = 0;
@@ -103,17 +102,14 @@ module _ {A : Type 0} (e : A) (_·_ : A → A → A) (step : List Connection →
           whole = ap (walk e _·_ step cs l) (sym q) ∙ walk-self e _·_ step cs l ∙ sym (unit-l e);
           lowest = λ a b p s m. (omega arith, omega arith);
         }
+
+    meets-by : (d : ℕ) (cs : List Connection) (l r : ℕ) → Forest cs → root cs l ≡ root cs r → depth cs l + depth cs r ≤ d → Meets cs l r
+    unfolding climbBy ups downs
+    meets-by zero cs l r f j h =
+        meets-here cs l r (sym (depth-zero cs l f (omega arith)) ∙ j ∙ depth-zero cs r f (omega arith))
     meets-by (suc d) cs l r f j h =
         elim (ℕ-discrete l r) [
-          | yes q ↦ record {
-            i = 0;
-            j = 0;
-            meet = q;
-            left = omega arith;
-            right = omega arith;
-            whole = ap (walk e _·_ step cs l) (sym q) ∙ walk-self e _·_ step cs l ∙ sym (unit-l e);
-            lowest = λ a b p s m. (omega arith, omega arith);
-          }
+          | yes q ↦ meets-here cs l r q
           | no q ↦ elim (decLe (depth cs r) (depth cs l)) [
             | yes z ↦ elim (place cs l f) [
               | high a b ↦ absurd (q (sym a ∙ j ∙ depth-zero cs r f (omega arith)))
