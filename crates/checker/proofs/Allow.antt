@@ -1,14 +1,13 @@
 -- What a mark allows, by its words; and the computed step, pair by pair.
 -- Assumes nothing.
-use Prim.Native.Nat.{ℕ, zero, suc, _+_, _≤_, _<_}
-use mathlib.Core.Bool.{Bool, true, false, _&&_, and-assoc, and-false, true≢false}
+use Prim.Native.Nat.{ℕ}
+use mathlib.Core.Bool.{false}
 use mathlib.Core.List.{List}
-use mathlib.Core.Path.{_≡_, refl, sym, _∙_, ap}
+use mathlib.Core.Path.{_≡_, refl}
 use native.Mathlib.Omega.{arith}
-use lib.ListN.{getD}
-use Rattle.model.specs.Term.{Mark, unmarked, forward, backward, markWord, ruleWord, Terms, noTerms, tree, Term, one, count, join, sameOp}
+use Rattle.model.specs.Term.{Mark, unmarked, forward, backward, markWord, ruleWord, Terms, noTerms, Term}
 use Rattle.model.specs.Rule.{Rule, listed}
-use Rattle.model.specs.Step.{fitsRule, allowed, step}
+use Rattle.model.specs.Step.{fitsRule, allowed}
 use Rattle.terms.specs.Place.{TermAt}
 use Rattle.terms.proofs.Place.{Tree, row-tree, term-row}
 

@@ -1,13 +1,13 @@
 -- A step is the book's rewriting: rewrites at its marked places, from the earlier term to the later (forward) or back (backward).
 -- And each rewrite of the book is a step, once its place is marked.
 use Prim.Native.Nat.{ℕ, zero, suc}
-use mathlib.Core.Bool.{Bool, true, false, _||_, true≢false}
+use mathlib.Core.Bool.{Bool, false, true≢false}
 use mathlib.Core.List.{List, [], _∷_}
-use mathlib.Core.Option.{Option, none, some}
+use mathlib.Core.Option.{some}
 use mathlib.Core.Path.{_≡_, refl, sym, _∙_, ap, subst}
 use native.Mathlib.Omega.{arith}
 use Rattle.model.specs.Term.{Mark, unmarked, forward, backward, Terms, noTerms, tree, Term, put, one, strip, stripped}
-use Rattle.model.specs.Pattern.{Instance, inst}
+use Rattle.model.specs.Pattern.{Instance}
 use Rattle.model.specs.Rule.{Rule, listed}
 use Rattle.model.specs.Step.{ByRule, Allowed, Step, someMark, isForward, isBackward}
 use Rattle.model.specs.Book.{Position, subterm, replace, Rewrites, Rewrites*, done, then}

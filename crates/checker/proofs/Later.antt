@@ -1,10 +1,10 @@
 -- The later terms, one behind the other: why one is refused, and the verdict on what is left.
 -- Assumes nothing.
-use Prim.Native.Nat.{ℕ, zero, suc, _+_, _-_, _*_, _≤_, _<_}
+use Prim.Native.Nat.{ℕ, zero, suc, _+_, _-_, _≤_, _<_}
 use mathlib.Core.Bool.{Bool, true, false, not, _&&_, _||_}
 use mathlib.Core.List.{List, [], _∷_}
 use mathlib.Core.Option.{Option, none, some}
-use mathlib.Core.Path.{_≡_, refl, sym, _∙_, ap, subst}
+use mathlib.Core.Path.{_≡_, refl, sym, _∙_, ap}
 use native.Mathlib.Numerals.{add-one}
 use native.Mathlib.Omega.{arith}
 use borrow.Author.Tests.{lt-ltb, le-ltb}
@@ -13,12 +13,12 @@ use Rattle.model.specs.declared.Verdict.{Verdict}
 use Rattle.model.specs.declared.Verdict.the-variants.{Accepted, Rejected}
 use Rattle.model.specs.Judged.{good}
 use Rattle.model.specs.Limits.{termLimit, wordLimit}
-use Rattle.model.specs.Term.{Mark, Terms, noTerms, tree, Term, one, count, words, read}
+use Rattle.model.specs.Term.{Terms, noTerms, tree, Term, one, count, words, read}
 use Rattle.model.specs.Rule.{Rule}
 use Rattle.model.specs.Step.{step, someMark, isMark, isForward, isBackward, nested, unlisted}
 use Rattle.model.specs.Verdict.{rejectIf, laterVerdict, chainVerdict, termsVerdict, verdict}
 use Rattle.terms.specs.Place.{TermAt, RowAt, Well, EndsAt}
-use Rattle.terms.proofs.Place.{row-tree, row-well, row-fits, end-same, term-row, read-row}
+use Rattle.terms.proofs.Place.{row-tree, row-well, end-same, term-row, read-row}
 use Rattle.terms.specs.declared.Whole.the-variants.{Count, Broken}
 use Rattle.terms.specs.Whole.{wholeOf}
 use Rattle.terms.proofs.Read.{read-words}
@@ -26,7 +26,7 @@ use Rattle.marks.specs.declared.Marks.{Marks}
 use Rattle.marks.specs.Marks.{HasRow, marksOf, MarkedIs}
 use Rattle.marks.proofs.Seen.{some-either}
 use Rattle.rule_table.specs.Entries.{rulesIn, Accepted as AcceptedRules}
-use Rattle.checker.specs.Check.{oneWay, faultIf, faultOf, FaultIs, chainOf, ChainIs, TermsIs, VerdictIs}
+use Rattle.checker.specs.Check.{oneWay, faultIf, faultOf, FaultIs, chainOf, ChainIs}
 
 -- marks of one direction, from the marks of both
 pub one-way-forward : (m : Marks) → m .forward ≡ true → not (m .backward) ≡ oneWay m

@@ -1,14 +1,14 @@
 -- Marks that name an unlisted rule: of one node, and of what is left of a term.
 -- Assumes nothing.
-use Prim.Native.Nat.{ℕ, zero, suc, _+_, _-_, _*_, _≤_, _<_}
+use Prim.Native.Nat.{ℕ, _+_, _-_, _*_, _≤_, _<_}
 use mathlib.Core.Bool.{Bool, true, false, not, _||_}
 use mathlib.Core.List.{List}
-use mathlib.Core.Option.{Option, none, some}
+use mathlib.Core.Option.{Option}
 use mathlib.Core.Path.{_≡_, refl, sym, _∙_, ap}
 use native.Mathlib.Omega.{arith}
 use lib.ListN.{length, getD}
 use Rattle.model.specs.Judged.{good}
-use Rattle.model.specs.Term.{Mark, unmarked, forward, backward, markWord, ruleWord, Terms, noTerms, tree, Term, one, join}
+use Rattle.model.specs.Term.{Mark, unmarked, forward, backward, markWord, ruleWord, Term, one}
 use Rattle.model.specs.Rule.{Rule, listed, isListed}
 use Rattle.model.specs.Step.{someMark, namesUnlisted, unlisted}
 use Rattle.terms.specs.Place.{nodeOf, TermAt, Well}

@@ -3,19 +3,18 @@
 use Prim.Native.Nat.{ℕ, zero, suc, _+_, _-_, _*_, _≤_, _<_}
 use mathlib.Core.Bool.{Bool, true, false, _&&_, and-assoc, true≢false}
 use mathlib.Core.List.{List}
-use mathlib.Core.Path.{_≡_, refl, sym, _∙_, ap, subst, subst₂}
+use mathlib.Core.Path.{_≡_, refl, sym, _∙_, ap, subst}
 use native.Mathlib.Omega.{arith}
 use native.Mathlib.Decide.{ℕ-discrete}
-use borrow.Author.Tests.{eqb-false, ne-eqb, eq-eqb, eqb-true}
+use borrow.Author.Tests.{ne-eqb, eq-eqb}
 use lib.ListN.{length, getD}
-use lib.Dec.{eqb}
 use Rattle.model.specs.Judged.{good}
 use Rattle.model.specs.Term.{Mark, unmarked, forward, backward, markWord, Terms, noTerms, tree, Term, one, count, join, sameOp}
 use Rattle.model.specs.Rule.{Rule}
 use Rattle.model.specs.Step.{allowed, step}
 use Rattle.terms.specs.declared.Node.{Node}
 use Rattle.terms.specs.Place.{nodeOf, sameHead, TermAt, RowAt, Well, EndsAt}
-use Rattle.terms.proofs.Place.{Tree, row-tree, row-room, row-well, row-fits, term-row, end-same}
+use Rattle.terms.proofs.Place.{Tree, row-tree, row-well, row-fits, term-row, end-same}
 use Rattle.terms.proofs.SameWalk.{heads, heads-same, sameAt}
 use Rattle.marks.proofs.Left.{ends}
 use Rattle.rule_table.specs.Entries.{rulesIn, Accepted}

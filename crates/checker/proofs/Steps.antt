@@ -4,11 +4,10 @@ use mathlib.Core.Bool.{Bool, true, false, not, _&&_, _||_, true≢false}
 use mathlib.Core.List.{List}
 use mathlib.Core.Option.{Option, none, some}
 use mathlib.Core.Path.{_≡_, refl, sym, _∙_, ap, subst}
-use native.Mathlib.Omega.{arith}
 use borrow.Author.Tests.{eqb-true, eq-eqb}
 use Rattle.model.specs.Term.{Mark, unmarked, forward, backward, Terms, noTerms, tree}
 use Rattle.model.specs.Rule.{Rule, listed, isListed}
-use Rattle.model.specs.Step.{ByRule, Allowed, Step, fitsRule, allowed, step, isForward, isBackward, isMark, someMark, nestedIn, nested, namesUnlisted, unlisted}
+use Rattle.model.specs.Step.{ByRule, Allowed, Step, fitsRule, allowed, step, isMark, someMark, nested, namesUnlisted, unlisted}
 use Rattle.model.specs.Pattern.{Patterns, Instance, fits}
 use Rattle.terms.specs.Place.{Decides}
 use Rattle.rules.proofs.Matching.{fits-decides}

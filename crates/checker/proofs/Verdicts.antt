@@ -1,22 +1,22 @@
 -- The verdict on terms: later terms are accepted exactly where they are a chain of steps.
-use Prim.Native.Nat.{ℕ, zero, suc, _+_, _≤_}
-use mathlib.Core.Bool.{Bool, true, false, not, _&&_, _||_, true≢false}
+use Prim.Native.Nat.{ℕ, suc, _+_, _≤_}
+use mathlib.Core.Bool.{Bool, true, false, not, _&&_, _||_}
 use mathlib.Core.List.{List}
 use mathlib.Core.Option.{Option, none, some}
-use mathlib.Core.Path.{_≡_, refl, sym, _∙_, ap, subst}
+use mathlib.Core.Path.{_≡_, refl, sym, _∙_, ap}
 use native.Mathlib.Omega.{arith}
 use borrow.Author.Tests.{ltb-false, le-ltb, not-false}
 use lib.Dec.{ltb}
 use lib.ListN.{length}
 use Rattle.model.specs.declared.Verdict.{Verdict}
-use Rattle.model.specs.declared.Verdict.the-variants.{Accepted, Rejected}
+use Rattle.model.specs.declared.Verdict.the-variants.{Accepted}
 use Rattle.model.specs.Limits.{termLimit, wordLimit}
-use Rattle.model.specs.Term.{Mark, Terms, noTerms, tree, count, read}
+use Rattle.model.specs.Term.{Terms, noTerms, tree, count, read}
 use Rattle.model.specs.Rule.{Rule}
-use Rattle.model.specs.Step.{Step, step, someMark, isMark, isForward, isBackward, nested, unlisted}
+use Rattle.model.specs.Step.{step, someMark, isMark, isForward, isBackward, nested, unlisted}
 use Rattle.model.specs.Verdict.{Later, Chain, Strict, Proves, rejectIf, laterVerdict, chainVerdict, termsVerdict, verdict}
 use Rattle.terms.proofs.Read.{read-words, reads-read}
-use Rattle.checker.proofs.Steps.{step-sound, step-complete, step-listed, neither, nor}
+use Rattle.checker.proofs.Steps.{step-sound, step-complete, step-listed, neither}
 
 -- what was not rejected comes from behind the test
 pub passed : (t : Bool) (n k : ℕ) (v : Verdict) (m : ℕ) → rejectIf t n k v ≡ Accepted m → (t ≡ false) × (v ≡ Accepted m)

@@ -1,2 +1,2 @@
-pub mod Older
+pub mod Climbing
 pub mod Weighed

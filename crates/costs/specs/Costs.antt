@@ -5,13 +5,13 @@ use mathlib.Core.Path.{_≡_}
 use mathlib.Core.List.{List}
 use lib.ListN.{length, getD, set}
 use Rattle.model.specs.declared.Connection.{Connection}
-use Rattle.model.specs.Limits.{nodeLimit}
+use Rattle.model.specs.Limits.{nodeLimit, distanceLimit}
 use Rattle.model.specs.Node.{Node}
 use Rattle.model.specs.Forest.{cur, nxt, root, walk, costBy, dist}
 use Rattle.forest.specs.Tables.{connectionIn, oldest, firstNodes}
 
 abbrev pub costCap : ℕ
-costCap = 4096
+costCap = suc distanceLimit
 
 abbrev pub held : ℕ → ℕ
 held n = min costCap n

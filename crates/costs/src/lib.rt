@@ -6,9 +6,10 @@ use forest::count_of;
 use forest::depth_of;
 use forest::next_of;
 use forest::parent_of;
-use forest::wide;
+use model::DISTANCE_LIMIT;
 use model::Justification;
 use model::NodeNo;
+use terms::wide;
 ghost use mathlib.Core.Path.{_≡_};
 ghost use Prim.Native.Nat.{_+_, _-_, _/_, _<_, _≤_};
 ghost use lib.ListN.{length, getD};
@@ -16,8 +17,8 @@ ghost use Rattle.model.specs.Forest.{sumPairs, dist};
 ghost use Rattle.forest.specs.Tables.{Stands, Supported, Twins, oldest, childrenIn};
 ghost use Rattle.costs.specs.Costs.{costCap, held, costAt, filled, Filled, nodesOf, weigh, Priced, Pair};
 
-// The first sum past 4,095: what is above is held here.
-const COST_CAP: u16 = 4096;
+// The first sum past the limit: what is above is held here.
+const COST_CAP: u16 = (DISTANCE_LIMIT + 1) as u16;
 
 // A sum, held at the cap.
 fn capped(a: u16, b: u16) -> u16

@@ -4,11 +4,10 @@ use Prim.Native.Nat.{ℕ, _/_}
 use mathlib.Core.List.{List}
 use mathlib.Core.Path.{_≡_, refl, sym, _∙_, ap, subst}
 use native.Mathlib.Omega.{arith}
-use lib.ListN.{length, replicate}
+use lib.ListN.{length}
 use Rattle.model.specs.declared.Connection.{Connection}
 use Rattle.model.specs.declared.Judgement.the-variants.{Taken, Faulty}
 use Rattle.model.specs.declared.Verdict.the-variants.{Rejected}
-use Rattle.model.specs.Limits.{nodeLimit}
 use Rattle.model.specs.Judged.{Judged, good, bad, judgementOf}
 use Rattle.model.specs.Rule.{Rule}
 use Rattle.model.specs.Node.{Node}
@@ -16,7 +15,8 @@ use Rattle.model.specs.Query.{Tables}
 use Rattle.model.specs.Tables.{nodeTable, ruleTable, connectionTable, withNodes, withConnections, tables, verdictBy}
 use Rattle.forest.specs.Tables.{firstNodes, oldest, parentWords}
 use Rattle.forest.proofs.Entries.{taken-good, faulty-bad}
-use Rattle.forest.proofs.Whole.{NodesWhole, nodes-whole, ConnectionsWhole, connections-whole}
+use Rattle.forest.specs.Whole.{NodesWhole, ConnectionsWhole}
+use Rattle.forest.proofs.Whole.{nodes-whole, connections-whole}
 use Rattle.rule_table.specs.Entries.{rulesIn}
 use Rattle.rule_table.proofs.Table.{table-accepted}
 use Rattle.explanation.specs.declared.Measured.the-variants.{Unmeasured}

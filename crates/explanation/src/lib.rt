@@ -15,7 +15,7 @@ ghost use Rattle.model.specs.Limits.{nodeLimit};
 ghost use Rattle.model.specs.Judged.{judgementOf};
 ghost use Rattle.model.specs.Tables.{tables, verdictBy};
 ghost use Rattle.model.specs.Verdict.{reportOf};
-ghost use Rattle.forest.proofs.Whole.{NodesWhole, ConnectionsWhole};
+ghost use Rattle.forest.specs.Whole.{NodesWhole, ConnectionsWhole};
 ghost use Rattle.explanation.specs.Measure.{measureBy, Measures, parentsBy, measureReport};
 
 // What the distance of a pair answers: the distance, or the number of a refusal.
@@ -67,10 +67,10 @@ fn measure(
     ensures { λ r. ⌜ Measures (now (nodes .entry)) (now (connections .entry)) (left .0) (right .0) r ⌝ }
 {
     let n = nodes.len() / NODE_WORDS;
-    if n <= forest::wide(left.0) {
+    if n <= terms::wide(left.0) {
         return Measured::Unmeasured(8);
     }
-    if n <= forest::wide(right.0) {
+    if n <= terms::wide(right.0) {
         return Measured::Unmeasured(8);
     }
     let count = connections.len() / CONNECTION_WORDS;

@@ -13,11 +13,11 @@ use Rattle.model.specs.declared.Justification.the-variants.{Congruence}
 use Rattle.model.specs.Judged.{Judged, good, refuseIf}
 use Rattle.model.specs.Node.{Node, opOf, kidsOf}
 use Rattle.model.specs.Term.{sameOp}
-use Rattle.model.specs.Forest.{cur, nxt, root, joined, Parent, top, below, parentOf, isTop}
+use Rattle.model.specs.Forest.{cur, nxt, root, joined, dist, Parent, top, below, parentOf, isTop}
 use Rattle.model.specs.Connect.{misplaced, pairsJoined, supported, addConnection}
 use Rattle.forest.specs.Hangs.{Hangs, Forest, Loose, Accepted, Sound, Paired}
 use Rattle.forest.proofs.Laws.{forest-loose}
-use Rattle.forest.proofs.Joined.{joined-root, apart-root}
+use Rattle.forest.proofs.Joined.{joined-root, apart-root, dist-sym}
 
 none-holds : (a b c d e : Bool) → (a || b || c || d || e) ≡ false →
     (a ≡ false) × (b ≡ false) × (c ≡ false) × (d ≡ false) × (e ≡ false)
@@ -66,6 +66,11 @@ accepted-forest ns (c ∷ cs) a = (sound (a .0) .hangs, accepted-forest ns cs (a
 
 pub accepted-loose : (ns : List Node) (cs : List Connection) → Accepted ns cs → Loose cs
 accepted-loose ns cs a = forest-loose cs (accepted-forest ns cs a)
+
+-- the distance over accepted connections is the same both ways
+pub accepted-sym : (ns : List Node) (cs : List Connection) (l r : ℕ) → Accepted ns cs → root cs l ≡ root cs r →
+    dist ns cs r l ≡ dist ns cs l r
+accepted-sym ns cs l r a j = dist-sym ns cs l r (accepted-loose ns cs a) j
 
 -- each pair of children is joined by the older connections
 pub paired : (cs : List Connection) (xs ys : List ℕ) → pairsJoined (joined cs) xs ys ≡ true → Paired cs xs ys

@@ -81,7 +81,7 @@ stands ns ps ws k a few room p =
     let f = accepted-forest ns (oldest k ws) a in
     record {
       size = ap length p ∙ length-ages (oldest k ws) nodeLimit;
-      few = omega (arith, connections-few (oldest k ws) nodeLimit f w, length-oldest k ws);
+      few = omega (arith, connections-few (oldest k ws) nodeLimit (omega arith) f w, length-oldest k ws);
       room = room;
       within = w;
       forest = f;
@@ -93,6 +93,9 @@ pub record Connections (ns : List Node) (ws : List ℕ) (k : ℕ) (cs : List Con
   pub is : cs ≡ oldest k ws
   pub accepted : Accepted ns (oldest k ws)
   pub room : k * 5 ≤ length ws
+
+some-same : {A : Type 0} {a b : A} → some a ≡ some b → a ≡ b
+some-same p = cc
 
 record Added (ns : List Node) (cs : List Connection) (e : Option Connection) (new : List Connection) : Type 0 where
   conn : Connection
@@ -109,6 +112,13 @@ added ns cs (some c) new p =
     let b = taken (not (supported ns cs (c .why) (cur c) (nxt c))) 7 _ _ (a .1) in
     let q : new ≡ c ∷ cs = cc in
     record { conn = c; entry = refl; is = q; accepted = rw q at p }
+
+pub added-some : (ns : List Node) (cs : List Connection) (c : Connection) {new : List Connection} →
+    addConnection ns cs (some c) ≡ good new → addConnection ns cs (some c) ≡ good (c ∷ cs)
+added-some ns cs c {new} p =
+    let a = added ns cs (some c) new p in
+    let e : c ≡ a .conn = some-same (a .entry) in
+    p ∙ ap good (a .is ∙ ap (λ (d : Connection). d ∷ cs) (sym e))
 
 pub step-connection : (ns : List Node) (ws : List ℕ) (k : ℕ) {cs new : List Connection} → Connections ns ws k cs →
     addConnection ns cs (connectionEntry ws k) ≡ good new → Connections ns ws (suc k) new

@@ -1,5 +1,5 @@
 -- What the two climbs come to: the path of the definitions, and where they meet.
-use Prim.Native.Nat.{ℕ, zero, suc, _+_, _≤_}
+use Prim.Native.Nat.{ℕ, zero, suc, _≤_}
 use mathlib.Core.Path.{_≡_, refl, sym, ap, ap₂, _∙_}
 use mathlib.Core.Bool.{Bool, true, false}
 use mathlib.Core.List.{List, [], _∷_, _++_, append-assoc, append-nil}
@@ -11,18 +11,20 @@ use Rattle.forest.specs.Meet.{Last, none, last, orElse, lastUp, topOf}
 use Rattle.forest.proofs.Places.{high, low, place}
 use Rattle.forest.proofs.Climbs.{last-assoc, last-none, last-at}
 use Rattle.forest.proofs.Related.{Steps, related}
-use Rattle.forest.proofs.Ways.{climbBy, hop, hop-low, ups, downs, meets}
+use Rattle.forest.proofs.Ways.{climbBy, Lowest, hop, hop-low, ups, downs, meets}
 
 abbrev pub hopOf : List Connection → (ℕ → ℕ → List Hop) → Connection → Bool → List Hop
 hopOf _ _ c u = record { conn = c; up = u } ∷ []
 
--- both ends climb until they meet, and what they walk is the path: up from the left, down to the right
+-- both ends climb until they meet, at the lowest node that both come to, and what they walk is the path: up from the left,
+-- down to the right
 pub record Climbed (cs : List Connection) (l r : ℕ) : Type 0 where
   pub i : ℕ
   pub j : ℕ
   pub left : climbBy cs i l ≡ topOf cs l r
   pub right : climbBy cs j r ≡ topOf cs l r
   pub whole : path cs l r ≡ ups [] _++_ hopOf cs i l ++ downs [] _++_ hopOf cs j r
+  pub lowest : Lowest cs l r i j
 
 -- where the last step up of a path leads
 abbrev ends : List Hop → Last
@@ -87,4 +89,4 @@ climbed cs l r f j =
     let e : topOf cs l r ≡ climbBy cs (m .i) l =
     ap (orElse l) (sym (ends-path cs l r) ∙ ap ends (m .whole) ∙ ends-append up down ∙ ap (last (ends up)) (downs-end (m .j) cs r))
     ∙ ups-end (m .i) cs l f (omega (arith, m .left)) in
-    record { i = m .i; j = m .j; left = sym e; right = sym (m .meet) ∙ sym e; whole = m .whole }
+    record { i = m .i; j = m .j; left = sym e; right = sym (m .meet) ∙ sym e; whole = m .whole; lowest = m .lowest }

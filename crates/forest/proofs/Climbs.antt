@@ -97,7 +97,9 @@ module _ (cs : List Connection) (l r : ℕ) (f : Forest cs) (n : l ≡ r → ⊥
       go (high p q) = absurd (omega arith)
       go (low c o p q s) =
           elim (ℕ-discrete (root cs l) (root cs r)) [
-            | yes j ↦ rw (q, joined-yes cs l r j, joined-yes cs (nxt c) r (sym (root-below cs l f p) ∙ j), climb-left none last (λ _ _. lastUp) last-assoc last-none (λ a. refl) cs l r f p j h n)
+            | yes j ↦
+                let w = climb-left none last (λ _ _. lastUp) last-assoc last-none (λ a. refl) cs l r f p j h n in
+                rw (q, joined-yes cs l r j, joined-yes cs (nxt c) r (sym (root-below cs l f p) ∙ j), w)
                 (ap (λ x. At (record { 0 = x })) (last-at l (nxt c) (ups cs (nxt c) r)))
             | no j ↦ rw (q, joined-no cs l r j, joined-no cs (nxt c) r (λ e. j (root-below cs l f p ∙ e))) refl
           ]
@@ -110,7 +112,9 @@ module _ (cs : List Connection) (l r : ℕ) (f : Forest cs) (n : l ≡ r → ⊥
       go (high p q) = absurd (omega arith)
       go (low c o p q s) =
           elim (ℕ-discrete (root cs l) (root cs r)) [
-            | yes j ↦ rw (q, joined-yes cs l r j, joined-yes cs l (nxt c) (j ∙ root-below cs r f p), climb-right none last (λ _ _. lastUp) last-assoc last-none (λ a. refl) cs l r f p j h n) refl
+            | yes j ↦
+                let w = climb-right none last (λ _ _. lastUp) last-assoc last-none (λ a. refl) cs l r f p j h n in
+                rw (q, joined-yes cs l r j, joined-yes cs l (nxt c) (j ∙ root-below cs r f p), w) refl
             | no j ↦ rw (q, joined-no cs l r j, joined-no cs l (nxt c) (λ e. j (e ∙ sym (root-below cs r f p)))) refl
           ]
 
@@ -144,7 +148,7 @@ module _ {ps ws : List ℕ} {count n : ℕ} (s : Stands ps ws count) (b : n < no
   unfolding nextOf
   some-depth z = rw (aged z .by) (depth-below (oldest count ws) n (s .forest) (aged z .by))
 
-  pub depth-small : depth (oldest count ws) n ≤ nodeLimit
+  pub depth-small : depth (oldest count ws) n < nodeLimit
   depth-small = omega (arith, depth-le (oldest count ws) n (s .forest), length-oldest count ws, s .few)
 
 -- two climbs that have not met, with what is left of each

@@ -1,15 +1,15 @@
--- There are no more connections than nodes: each hangs a node that had no parent before.
+-- There are fewer connections than nodes: each hangs a node that had no parent before, and a root is left.
 use Prim.Native.Nat.{ℕ, zero, suc, _+_, _≤_, _<_}
-use mathlib.Core.Path.{_≡_, refl, ap, _∙_}
+use mathlib.Core.Path.{_≡_, refl, sym, ap, _∙_}
 use mathlib.Core.List.{List, [], _∷_}
 use native.Mathlib.Omega.{arith}
 use native.Mathlib.Decide.{ℕ-discrete}
 use lib.ListN.{length}
 use Rattle.model.specs.declared.Connection.{Connection}
-use Rattle.model.specs.Forest.{cur, Parent, top, below, parentOf}
+use Rattle.model.specs.Forest.{cur, nxt, root, Parent, top, below, parentOf}
 use Rattle.forest.specs.Hangs.{Forest}
 use Rattle.forest.specs.Tables.{Within}
-use Rattle.forest.proofs.Laws.{parent-new, parent-old}
+use Rattle.forest.proofs.Laws.{parent-new, parent-old, root-hung, root-kept, root-top}
 
 abbrev topOne : Parent → ℕ
 topOne top = 1
@@ -45,5 +45,40 @@ counted : (cs : List Connection) (n : ℕ) → Forest cs → Within n cs → top
 counted [] n f w = omega (arith, tops-none n)
 counted (c ∷ cs) n f w = omega (arith, tops-fewer c cs n (w .0) (f .0 .free), counted cs n (f .1) (w .2))
 
-pub connections-few : (cs : List Connection) (n : ℕ) → Forest cs → Within n cs → length cs ≤ n
-connections-few cs n f w = omega (arith, counted cs n f w)
+-- a class's root is a node of the table, and has no parent
+record Root (cs : List Connection) (n m : ℕ) : Type 0 where
+  small : root cs m < n
+  free : parentOf cs (root cs m) ≡ top
+
+root-free : (cs : List Connection) (n m : ℕ) → Forest cs → Within n cs → m < n → Root cs n m
+unfolding root parentOf
+root-free [] n m f w h = record { small = h; free = refl }
+root-free (c ∷ cs) n m f w h =
+    elim (ℕ-discrete (root cs m) (root cs (cur c))) [
+      | yes p ↦
+          let r = root-free cs n (nxt c) (f .1) (w .2) (w .1) in
+          rise (root-hung c cs m p) r (λ q. f .0 .apart (sym q))
+      | no p ↦ rise (root-kept c cs m p) (root-free cs n m (f .1) (w .2) h) p
+    ]
+  where
+    rise : {x : ℕ} → root (c ∷ cs) m ≡ root cs x → Root cs n x → (root cs x ≡ root cs (cur c) → ⊥) → Root (c ∷ cs) n m
+    rise {x} e r a =
+        let t : root cs (cur c) ≡ cur c = root-top cs (cur c) (f .1) (f .0 .free) in
+        record {
+          small = omega (arith, e, r .small);
+          free = ap (parentOf (c ∷ cs)) e ∙ parent-old c cs (root cs x) (λ q. a (q ∙ sym t)) ∙ r .free;
+        }
+
+tops-some : (cs : List Connection) (n m : ℕ) → m < n → parentOf cs m ≡ top → 0 < tops cs n
+unfolding tops
+tops-some cs zero m h p = absurd (omega arith)
+tops-some cs (suc n) m h p =
+    elim (ℕ-discrete m n) [
+      | yes e ↦ omega (arith, ap topOne (ap (parentOf cs) (sym e) ∙ p))
+      | no e ↦ omega (arith, tops-some cs n m (omega arith) p)
+    ]
+
+pub connections-few : (cs : List Connection) (n : ℕ) → 0 < n → Forest cs → Within n cs → length cs < n
+connections-few cs n z f w =
+    let r = root-free cs n 0 f w z in
+    omega (arith, counted cs n f w, tops-some cs n (root cs 0) (r .small) (r .free))

@@ -25,6 +25,10 @@ module _ {A : Type 0} (e : A) (_·_ : A → A → A) (step : List Connection →
   abbrev pub X : List Connection → ℕ → ℕ → A
   X = walk e _·_ step
 
+  -- a connection's step, and what is behind it
+  abbrev over : List Connection → Connection → Bool → A → A
+  over older c u x = step older (X older) c u · x
+
   pub record First (c : Connection) (older cs : List Connection) (r : ℕ) : Type 0 where
     pub up : X cs (cur c) r ≡ step older (X older) c true · X cs (nxt c) r
 
@@ -37,14 +41,14 @@ module _ {A : Type 0} (e : A) (_·_ : A → A → A) (step : List Connection →
       ⊎-elim
       (λ q. inr (record {
         down = walk-down e _·_ step c older (nxt c) r (f .0) (record { left = refl; right = sym q })
-            ∙ ap (λ x. x · (step older (X older) c false · X older (cur c) r)) (walk-self e _·_ step older (nxt c)) ∙ unit-l _
-            ∙ ap (λ x. step older (X older) c false · x) (sym (walk-old e _·_ step c older (cur c) r q));
+            ∙ ap (λ x. x · over older c false (X older (cur c) r)) (walk-self e _·_ step older (nxt c)) ∙ unit-l _
+            ∙ ap (over older c false) (sym (walk-old e _·_ step c older (cur c) r q));
       }))
       (⊎-elim
       (λ u. inl (record {
         up = walk-up e _·_ step c older (cur c) r (f .0) u
-            ∙ ap (λ x. x · (step older (X older) c true · X older (nxt c) r)) (walk-self e _·_ step older (cur c)) ∙ unit-l _
-            ∙ ap (λ x. step older (X older) c true · x) (sym (walk-old e _·_ step c older (nxt c) r (sym (u .right))));
+            ∙ ap (λ x. x · over older c true (X older (nxt c) r)) (walk-self e _·_ step older (cur c)) ∙ unit-l _
+            ∙ ap (over older c true) (sym (walk-old e _·_ step c older (nxt c) r (sym (u .right))));
       }))
       (λ u. absurd (f .0 (u .left))))
       (split c older (cur c) r j)
@@ -52,22 +56,22 @@ module _ {A : Type 0} (e : A) (_·_ : A → A → A) (step : List Connection →
       let b = in-joined (f .1) m in
       ⊎-elim
       (λ q. ⊎-elim
-      (λ k. inl (record { up = walk-old e _·_ step d cs (cur c) r q ∙ k .up ∙ ap (λ x. step older (X older) c true · x) (sym (walk-old e _·_ step d cs (nxt c) r (sym b ∙ q))) }))
-      (λ k. inr (record { down = walk-old e _·_ step d cs (nxt c) r (sym b ∙ q) ∙ k .down ∙ ap (λ x. step older (X older) c false · x) (sym (walk-old e _·_ step d cs (cur c) r q)) }))
+      (λ k. inl (record { up = walk-old e _·_ step d cs (cur c) r q ∙ k .up ∙ ap (over older c true) (sym (walk-old e _·_ step d cs (nxt c) r (sym b ∙ q))) }))
+      (λ k. inr (record { down = walk-old e _·_ step d cs (nxt c) r (sym b ∙ q) ∙ k .down ∙ ap (over older c false) (sym (walk-old e _·_ step d cs (cur c) r q)) }))
       (edge r (f .1) m q))
       (⊎-elim
       (λ u.
       let a = walk-up e _·_ step d cs (cur c) r (f .0) u in
       let n = walk-up e _·_ step d cs (nxt c) r (f .0) (record { left = sym b ∙ u .left; right = u .right }) in
       ⊎-elim
-      (λ k. inl (record { up = a ∙ ap (λ x. x · (step cs (X cs) d true · X cs (nxt d) r)) (k .up) ∙ assoc _ _ _ ∙ ap (λ x. step older (X older) c true · x) (sym n) }))
-      (λ k. inr (record { down = n ∙ ap (λ x. x · (step cs (X cs) d true · X cs (nxt d) r)) (k .down) ∙ assoc _ _ _ ∙ ap (λ x. step older (X older) c false · x) (sym a) }))
+      (λ k. inl (record { up = a ∙ ap (λ x. x · over cs d true (X cs (nxt d) r)) (k .up) ∙ assoc _ _ _ ∙ ap (over older c true) (sym n) }))
+      (λ k. inr (record { down = n ∙ ap (λ x. x · over cs d true (X cs (nxt d) r)) (k .down) ∙ assoc _ _ _ ∙ ap (over older c false) (sym a) }))
       (edge (cur d) (f .1) m (u .left)))
       (λ u.
       let a = walk-down e _·_ step d cs (cur c) r (f .0) u in
       let n = walk-down e _·_ step d cs (nxt c) r (f .0) (record { left = sym b ∙ u .left; right = u .right }) in
       ⊎-elim
-      (λ k. inl (record { up = a ∙ ap (λ x. x · (step cs (X cs) d false · X cs (cur d) r)) (k .up) ∙ assoc _ _ _ ∙ ap (λ x. step older (X older) c true · x) (sym n) }))
-      (λ k. inr (record { down = n ∙ ap (λ x. x · (step cs (X cs) d false · X cs (cur d) r)) (k .down) ∙ assoc _ _ _ ∙ ap (λ x. step older (X older) c false · x) (sym a) }))
+      (λ k. inl (record { up = a ∙ ap (λ x. x · over cs d false (X cs (cur d) r)) (k .up) ∙ assoc _ _ _ ∙ ap (over older c true) (sym n) }))
+      (λ k. inr (record { down = n ∙ ap (λ x. x · over cs d false (X cs (cur d) r)) (k .down) ∙ assoc _ _ _ ∙ ap (over older c false) (sym a) }))
       (edge (nxt d) (f .1) m (u .left))))
       (split d cs (cur c) r j)

@@ -123,7 +123,10 @@ unfolding parentOf
 depth-below [] n f p = absurd (no-parent p)
 depth-below (d ∷ cs) n {c} f p =
     ⊎-elim
-    (λ w. rw (← (w .conn)) (omega (arith, depth-hung d cs n (ap (root cs) (w .here)), ap (depth cs) (w .here), depth-top cs (cur d) (f .1) (f .0 .free), depth-kept d cs (nxt d) (λ q. f .0 .apart (sym q)))))
+    (λ w.
+    let a = depth-hung d cs n (ap (root cs) (w .here)) in
+    let b = depth-kept d cs (nxt d) (λ q. f .0 .apart (sym q)) in
+    rw (← (w .conn)) (omega (arith, a, b, ap (depth cs) (w .here), depth-top cs (cur d) (f .1) (f .0 .free))))
     (λ w. omega (arith, depth-old d cs n (nxt c) (root-below cs n (f .1) (w .from)), depth-below cs n (f .1) (w .from)))
     (parent-case d cs n p)
 
@@ -291,8 +294,16 @@ module _ {A : Type 0} (e : A) (_·_ : A → A → A) (step : List Connection →
       ⊎-elim
       (λ q. walk-old e _·_ step d cs r l (sym q) ∙ turned cs l r (f .1) q ∙ ap back (sym (walk-old e _·_ step d cs l r q)))
       (⊎-elim
-      (λ u. simp (walk-down e _·_ step d cs r l (f .0) (record { left = u .right; right = u .left }), walk-up e _·_ step d cs l r (f .0) u, back-two, back-step, assoc, turned cs l (cur d) (f .1) (u .left), turned cs (nxt d) r (f .1) (sym (u .right))))
-      (λ u. simp (walk-up e _·_ step d cs r l (f .0) (record { left = u .right; right = u .left }), walk-down e _·_ step d cs l r (f .0) u, back-two, back-step, assoc, turned cs l (nxt d) (f .1) (u .left), turned cs (cur d) r (f .1) (sym (u .right)))))
+      (λ u.
+      let v : Down d cs r l = record { left = u .right; right = u .left } in
+      let p = turned cs l (cur d) (f .1) (u .left) in
+      let q = turned cs (nxt d) r (f .1) (sym (u .right)) in
+      simp (walk-down e _·_ step d cs r l (f .0) v, walk-up e _·_ step d cs l r (f .0) u, back-two, back-step, assoc, p, q))
+      (λ u.
+      let v : Up d cs r l = record { left = u .right; right = u .left } in
+      let p = turned cs l (nxt d) (f .1) (u .left) in
+      let q = turned cs (cur d) r (f .1) (sym (u .right)) in
+      simp (walk-up e _·_ step d cs r l (f .0) v, walk-down e _·_ step d cs l r (f .0) u, back-two, back-step, assoc, p, q)))
       (split d cs l r j)
 
 pub forest-loose : (cs : List Connection) → Forest cs → Loose cs

@@ -18,3 +18,4 @@ pub mod Support
 pub mod Whole
 pub mod Climbed
 pub mod Kept
+pub mod Older

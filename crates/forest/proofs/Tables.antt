@@ -104,9 +104,13 @@ pub record Entry (ws : List ℕ) (i : ℕ) (c : Connection) : Type 0 where
 pub entry-some : (ws : List ℕ) (i : ℕ) {c : Connection} → connectionEntry ws i ≡ some c → Entry ws i c
 unfolding connectionEntry connectionIn
 entry-some ws i p =
-    let w = whole (leb (i * 5 + 5) (length ws)) (connectionOf (getD ws (i * 5) 0) (getD ws (i * 5 + 1) 0)
-    (whyOf (getD ws (i * 5 + 2) 0) (getD ws (i * 5 + 3) 0) (getD ws (i * 5 + 4) 0))) p in
-    record { room = leb-true _ _ (w .0); is = entry-made (getD ws (i * 5) 0) (getD ws (i * 5 + 1) 0) (getD ws (i * 5 + 2) 0) (getD ws (i * 5 + 3) 0) (getD ws (i * 5 + 4) 0) _ refl (w .1) }
+    let a = getD ws (i * 5) 0 in
+    let b = getD ws (i * 5 + 1) 0 in
+    let k = getD ws (i * 5 + 2) 0 in
+    let r = getD ws (i * 5 + 3) 0 in
+    let f = getD ws (i * 5 + 4) 0 in
+    let w = whole (leb (i * 5 + 5) (length ws)) (connectionOf a b (whyOf k r f)) p in
+    record { room = leb-true _ _ (w .0); is = entry-made a b k r f (whyOf k r f) refl (w .1) }
 
 -- when an entry is there
 present-made : (a b : ℕ) (w : Option Justification) → present (connectionOf a b w) ≡ present w

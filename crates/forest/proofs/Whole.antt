@@ -1,7 +1,8 @@
 -- From judging to what later layers assume: tables that were accepted whole stand, and an accepted entry keeps them standing.
-use Prim.Native.Nat.{ℕ, suc, _+_, _/_, _≤_, _<_}
+use Prim.Native.Nat.{ℕ, suc, _+_, _*_, _/_, _≤_, _<_}
 use mathlib.Core.Path.{_≡_, refl, sym, ap, _∙_, subst}
 use mathlib.Core.List.{List, [], _∷_, _++_}
+use mathlib.Core.Option.{some}
 use native.Mathlib.Omega.{arith}
 use native.Mathlib.Numerals.{add-one}
 use lib.Seq.{ext-getD}
@@ -16,15 +17,11 @@ use Rattle.model.specs.Tables.{nodeAt, nodeEntry, nodeTable, connectionEntry, c
 use Rattle.forest.specs.Hangs.{Accepted}
 use Rattle.forest.specs.Tables.{connectionIn, oldest, firstNodes, agesOf, parentWords, NodesStand, Stands, Supported}
 use Rattle.forest.proofs.Accept.{sound}
+use Rattle.forest.specs.Whole.{NodesWhole, ConnectionsWhole}
 use Rattle.forest.proofs.Climbs.{length-oldest}
 use Rattle.forest.proofs.Tables.{length-nodes}
 use Rattle.forest.proofs.Entries.{taken-good}
-use Rattle.forest.proofs.Built.{Nodes, nodes, step-node, connections, step-connection, stands, length-ages, ages-at, ages-more}
-
--- a table of nodes that was accepted
-pub record NodesWhole (ws : List ℕ) : Type 0 where
-  pub stand : NodesStand ws (length ws / 10)
-  pub is : nodeTable ws ≡ good (firstNodes (length ws / 10) ws)
+use Rattle.forest.proofs.Built.{added-some, Nodes, nodes, step-node, connections, step-connection, stands, length-ages, ages-at, ages-more}
 
 pub nodes-whole : (ws : List ℕ) → Taken ≡ judgementOf (nodeTable ws) → NodesWhole ws
 unfolding nodeTable
@@ -33,12 +30,6 @@ nodes-whole ws p =
     let t = nodes ws ((length ws + 9) / 10) (g .what) (g .is) in
     let e : (length ws + 9) / 10 ≡ length ws / 10 = omega (arith, t .stand .room) in
     record { stand = subst (NodesStand ws) e (t .stand); is = g .is ∙ ap good (t .is ∙ ap (λ (k : ℕ). firstNodes k ws) e) }
-
--- a table of connections that was accepted over n nodes, with the table of parents that judging leaves
-pub record ConnectionsWhole (nodes : List ℕ) (n : ℕ) (conns parents : List ℕ) : Type 0 where
-  pub stand : Stands parents conns (length conns / 5)
-  pub support : Supported nodes n conns (length conns / 5)
-  pub is : connectionTable (firstNodes n nodes) conns ≡ good (oldest (length conns / 5) conns)
 
 pub connections-whole : (nodes : List ℕ) (n : ℕ) (conns parents : List ℕ) → NodesStand nodes n →
     Taken ≡ judgementOf (connectionTable (firstNodes n nodes) conns) →
@@ -81,6 +72,29 @@ ages-of {parents} {conns} {count} s =
     let q : m < nodeLimit = omega (arith, s .size) in
     s .agree m q ∙ sym (ages-at (oldest count conns) nodeLimit m q))
 
+-- by what the table holds at the next place
+pub hung-stands : {nodes : List ℕ} {n : ℕ} {conns parents new : List ℕ} {count : ℕ} → Stands parents conns count →
+    Supported nodes n conns count → count * 5 + 5 ≤ length conns →
+    Taken ≡ judgementOf (addConnection (firstNodes n nodes) (oldest count conns) (some (connectionIn conns count))) →
+    new ≡ set parents (cur (connectionIn conns count)) (count + 1) → Grown nodes n conns new count
+unfolding oldest
+hung-stands {nodes} {n} {conns} {parents} {new} {count} s a room p e =
+    let ns = firstNodes n nodes in
+    let c = connectionIn conns count in
+    let g = taken-good (addConnection ns (oldest count conns) (some c)) p in
+    let q : addConnection ns (oldest count conns) (some c) ≡ good (c ∷ oldest count conns) = added-some ns (oldest count conns) c (g .is) in
+    let few : length ns ≤ nodeLimit = omega (arith, length-nodes n nodes, a .table .few) in
+    let small : cur c < nodeLimit = omega (arith, sound q .current-in) in
+    record {
+      stand =
+          stands ns new conns (suc count) (q, a .accepted) few (omega arith)
+          (e ∙ ap (λ (l : List ℕ). set l (cur c) (count + 1)) (ages-of s)
+          ∙ ap (set (agesOf (oldest count conns) nodeLimit) (cur c)) (add-one count ∙ ap suc (sym (length-oldest count conns)))
+          ∙ ages-more c (oldest count conns) nodeLimit small);
+      support = record { table = a .table; accepted = (q, a .accepted) };
+    }
+
+-- by the entry at the next place, which may not be there
 pub connection-stands : {nodes : List ℕ} {n : ℕ} {conns parents new : List ℕ} {count : ℕ} → Stands parents conns count →
     Supported nodes n conns count →
     Taken ≡ judgementOf (addConnection (firstNodes n nodes) (oldest count conns) (connectionEntry conns count)) →
@@ -88,16 +102,6 @@ pub connection-stands : {nodes : List ℕ} {n : ℕ} {conns parents new : List �
 unfolding oldest
 connection-stands {nodes} {n} {conns} {parents} {new} {count} s a p e =
     let ns = firstNodes n nodes in
-    let c = connectionIn conns count in
     let g = taken-good (addConnection ns (oldest count conns) (connectionEntry conns count)) p in
     let t = step-connection ns conns count (record { is = refl; accepted = a .accepted; room = s .room }) (g .is) in
-    let few : length ns ≤ nodeLimit = omega (arith, length-nodes n nodes, a .table .few) in
-    let small : cur c < nodeLimit = omega (arith, sound (t .accepted .0) .current-in) in
-    record {
-      stand =
-          stands ns new conns (suc count) (t .accepted) few (t .room)
-          (e ∙ ap (λ (l : List ℕ). set l (cur c) (count + 1)) (ages-of s)
-          ∙ ap (set (agesOf (oldest count conns) nodeLimit) (cur c)) (add-one count ∙ ap suc (sym (length-oldest count conns)))
-          ∙ ages-more c (oldest count conns) nodeLimit small);
-      support = record { table = a .table; accepted = t .accepted };
-    }
+    hung-stands s a (omega (arith, t .room)) (ap judgementOf (sym (t .accepted .0))) e

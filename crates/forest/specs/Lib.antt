@@ -1,3 +1,4 @@
 pub mod Hangs
 pub mod Tables
 pub mod Meet
+pub mod Whole

@@ -97,7 +97,7 @@ Within n (c ∷ cs) = (cur c < n) × (nxt c < n) × Within n cs
 -- a table's connections, up to a count, with the table of parents that belongs to them: all that climbing wants
 pub record Stands (parents conns : List ℕ) (count : ℕ) : Type 0 where
   pub size : length parents ≡ nodeLimit
-  pub few : count ≤ nodeLimit
+  pub few : count < nodeLimit
   pub room : count * 5 ≤ length conns
   pub within : Within nodeLimit (oldest count conns)
   pub forest : Forest (oldest count conns)

@@ -1,16 +1,20 @@
 // Connections and the nodes they join: the tables judged, and where two climbs meet.
 // Tables are lent as words, a node 10 and a connection 5. A table of parents has a word for each node: the age of its
 // parent connection, and 1, or 0 where it has none.
+use model::CHILD_LIMIT;
 use model::Connection;
 use model::Direction;
 use model::Judgement;
 use model::Justification;
+use model::NODE_LIMIT;
 use model::NodeNo;
 use model::OpNo;
 use model::RuleNo;
+use terms::same_op;
+use terms::wide;
 ghost use mathlib.Core.Path.{_≡_};
 ghost use Prim.Native.Nat.{_+_, _*_, _<_, _≤_};
-ghost use lib.ListN.{length, getD};
+ghost use lib.ListN.{length, getD, set, replicate};
 ghost use Rattle.forest.specs.Hangs.{depth, nextOf};
 ghost use Rattle.forest.specs.Tables.{Stands, NodesStand, Known, oldest, firstNodes, connectionIn, directionIn, countIn, childIn, childrenIn, supportIn, present, parentWords};
 ghost use Rattle.forest.specs.Meet.{meetOf};
@@ -22,23 +26,11 @@ ghost use Rattle.model.specs.Forest.{joined};
 ghost use Rattle.model.specs.Connect.{pairsJoined, addConnection};
 ghost use Rattle.model.specs.Tables.{nodeEntry, nodeTable, connectionEntry, connectionTable};
 ghost use mathlib.Core.Option.{some};
-ghost use lib.ListN.{set, replicate};
-
-// The limits of the tables: nodes, and children of a node.
-pub const NODE_LIMIT: usize = 2048;
-
-pub const CHILD_LIMIT: u16 = 8;
 
 // Where two climbs meet.
 pub enum Meeting {
     At(NodeNo),
     Nowhere,
-}
-
-pub fn wide(x: u16) -> usize
-    ensures { λ r. ⌜ r ≡ x ⌝ }
-{
-    x as usize
 }
 
 // A word of an entry that starts at a base.
@@ -49,6 +41,7 @@ fn word(words: &[u16], base: usize, k: usize) -> u16
     words[base + k]
 }
 
+// Which way a rule connection's last word says.
 fn direction_of(word: u16) -> Direction
     ensures { λ r. ⌜ r ≡ directionIn word ⌝ }
 {
@@ -161,13 +154,7 @@ pub fn linked(parents: &[u16], conns: &[u16], count: usize, left: NodeNo, right:
     }
 }
 
-// What makes two nodes the same operator.
-pub fn same_operator(a: OpNo, b: OpNo) -> bool
-    ensures { λ r. ⌜ r ≡ sameOp (a .0) (b .0) ⌝ }
-{
-    a.0 == b.0
-}
-
+// A node's operator.
 pub fn operator_of(nodes: &[u16], n: NodeNo) -> OpNo
     requires { ⌜ n .0 * 10 + 10 ≤ length (now nodes) ⌝ }
     ensures { λ r. ⌜ r .0 ≡ getD (now (nodes .entry)) (n .0 * 10) 0 ⌝ }
@@ -183,6 +170,7 @@ pub fn count_of(nodes: &[u16], n: NodeNo) -> usize
     wide(word(nodes, wide(n.0) * 10, 1))
 }
 
+// A child of a node, from 0.
 pub fn child_of(nodes: &[u16], n: NodeNo, i: usize) -> NodeNo
     requires { ⌜ (n .0 * 10 + 10 ≤ length (now nodes)) × (i < childLimit) ⌝ }
     ensures { λ r. ⌜ r .0 ≡ childIn (now (nodes .entry)) (n .0) i ⌝ }
@@ -234,7 +222,7 @@ fn supports(
     requires { ⌜ Known (now nodes) (a .0) × Known (now nodes) (b .0) ⌝ }
     ensures { λ r. ⌜ r ≡ supportIn (now (nodes .entry)) (oldest count (now (conns .entry))) (a .0) (b .0) ⌝ }
 {
-    if !same_operator(operator_of(nodes, a), operator_of(nodes, b)) {
+    if !same_op(operator_of(nodes, a), operator_of(nodes, b)) {
         return false;
     }
     if count_of(nodes, a) != count_of(nodes, b) {
@@ -326,6 +314,7 @@ pub fn hang(parents: &mut [u16], n: NodeNo, age: usize)
     parents[wide(n.0)] = (age + 1) as u16;
 }
 
+// Sets every word to zero.
 fn clear(words: &mut [u16])
     ensures { λ _. ⌜ now (words .exit) ≡ replicate (length (now (words .entry))) 0 ⌝ }
 {
@@ -336,7 +325,7 @@ fn clear(words: &mut [u16])
     }
 }
 
-// Judges a whole table of connections, and makes the table of parents that belongs to it.
+// Judges a whole table of connections over n nodes, and makes the table of parents that belongs to it; refused, that is all zero.
 pub fn judge_connections(nodes: &[u16], n: usize, conns: &[u16], parents: &mut [u16]) -> Judgement
     requires { ⌜ NodesStand (now nodes) n ⌝ }
     requires { ⌜ length (now parents) ≡ nodeLimit ⌝ }

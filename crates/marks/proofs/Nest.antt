@@ -1,17 +1,17 @@
 -- Whether a mark stands inside another: of what is left of a row, and of the whole.
 -- Assumes nothing.
-use Prim.Native.Nat.{ℕ, zero, suc, _+_, _-_, _*_, _≤_, _<_}
+use Prim.Native.Nat.{ℕ, _+_, _-_, _*_, _≤_, _<_}
 use mathlib.Core.Bool.{Bool, true, false, _||_, or-assoc}
 use mathlib.Core.List.{List}
-use mathlib.Core.Path.{_≡_, refl, sym, _∙_, ap, subst}
+use mathlib.Core.Path.{_≡_, refl, sym, _∙_, ap}
 use native.Mathlib.Omega.{arith}
 use lib.ListN.{length, getD}
 use Rattle.model.specs.Term.{Mark, unmarked, forward, backward, Terms, noTerms, tree, Term, one, join, markWord}
 use Rattle.model.specs.Step.{someMark, isMark, nestedIn, nested}
-use Rattle.terms.specs.Place.{TermAt, RowAt, Well, EndsAt}
+use Rattle.terms.specs.Place.{TermAt, Well, EndsAt}
 use Rattle.terms.proofs.Place.{term-row}
 use Rattle.marks.specs.Marks.{HasRow, MarkedIs, NestedIs}
-use Rattle.marks.proofs.Left.{Left, First, left-down, left-over, left-first, left-none, left-room, left-few, left-well}
+use Rattle.marks.proofs.Left.{Left, left-down, left-over, left-first, left-none, left-room, left-few, left-well}
 
 -- in rows one behind the other
 pub nested-join : (k s : Terms) → nested (join k s) ≡ (nested k || nested s)

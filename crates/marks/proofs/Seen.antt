@@ -1,6 +1,6 @@
 -- The marks of what is left of a row, and of the whole.
 -- Assumes nothing.
-use Prim.Native.Nat.{ℕ, zero, suc, _+_, _-_, _*_, _≤_, _<_}
+use Prim.Native.Nat.{ℕ, _+_, _-_, _*_, _≤_, _<_}
 use mathlib.Core.Bool.{Bool, true, false, _||_, or-assoc, or-false, or-true}
 use borrow.Author.Tests.{ne-eqb}
 use mathlib.Core.List.{List}
@@ -8,7 +8,7 @@ use mathlib.Core.Path.{_≡_, refl, sym, _∙_, ap}
 use lib.Dec.{eqb}
 use lib.ListN.{length, getD}
 use Rattle.model.specs.Term.{Mark, unmarked, forward, backward, Terms, noTerms, tree, join, markWord}
-use Rattle.model.specs.Step.{someMark, isForward, isBackward, isMark, nestedIn, nested}
+use Rattle.model.specs.Step.{someMark, isForward, isBackward, isMark}
 use Rattle.marks.specs.declared.Marks.{Marks}
 use Rattle.marks.specs.Marks.{HasRow, withWord, marksOf, MarksIs}
 use Rattle.terms.specs.Place.{RowAt}

@@ -7,7 +7,7 @@ use Rattle.model.specs.declared.Direction.{Direction}
 use Rattle.model.specs.declared.Direction.the-variants.{Forward, Backward}
 use Rattle.model.specs.declared.Justification.{Justification}
 use Rattle.model.specs.declared.Justification.the-variants.{Rule as byRule, Congruence}
-use Rattle.model.specs.Term.{Mark, unmarked, forward, backward, Terms, noTerms, tree, Term, put, one, join}
+use Rattle.model.specs.Term.{Mark, unmarked, forward, backward, Terms, noTerms, tree, put, one, join}
 use Rattle.model.specs.Node.{Node, opOf, kidsOf, row, termOf}
 use Rattle.model.specs.Forest.{cur, nxt, walk, dist}
 

@@ -1,12 +1,12 @@
 -- Lines of hexadecimal, and the frames that they hold.
 use Prim.Native.Nat.{ℕ, zero, suc, _+_, _*_, _-_}
-use mathlib.Core.Bool.{Bool, true, false, not, _&&_, _||_}
-use mathlib.Core.List.{List, [], _∷_, _++_}
+use mathlib.Core.Bool.{Bool, true, false, _&&_}
+use mathlib.Core.List.{List, [], _∷_}
 use mathlib.Core.Option.{Option, none, some}
-use lib.Dec.{leb, ltb, eqb}
+use lib.Dec.{leb, eqb}
 use lib.ListN.{length}
 use Rattle.model.specs.declared.Connection.{Connection}
-use Rattle.model.specs.Limits.{childLimit, digitLimit, itemLimit}
+use Rattle.model.specs.Limits.{childLimit, digitLimit}
 use Rattle.model.specs.Pattern.{Item, variable, operator, Patterns, readP, CutP, cutP, countP, items}
 use Rattle.model.specs.Rule.{Rule, ruleOf, onePattern}
 use Rattle.model.specs.Node.{Node}

@@ -1,13 +1,13 @@
 -- The node table, how its entries are judged (2, 3, 4), and the term of a node.
-use Prim.Native.Nat.{ℕ, zero, suc, _+_, _<_}
+use Prim.Native.Nat.{ℕ, zero, suc}
 use mathlib.Core.List.{List, [], _∷_, _++_}
-use mathlib.Core.Bool.{Bool, true, false, not, _&&_}
+use mathlib.Core.Bool.{Bool, true, not, _&&_}
 use mathlib.Core.Option.{Option, none, some}
 use lib.Dec.{leb, ltb}
 use lib.ListN.{length, getD}
 use Rattle.model.specs.Limits.{nodeLimit}
 use Rattle.model.specs.Judged.{Judged, good, bad, refuseIf}
-use Rattle.model.specs.Term.{Mark, unmarked, Terms, noTerms, tree, Term, one, put}
+use Rattle.model.specs.Term.{unmarked, Terms, noTerms, Term, put}
 
 -- "a node has an operator and 0 to 8 children". "Nodes count from 0 in order": the table's first entry is node 0.
 pub record Node : Type 0 where

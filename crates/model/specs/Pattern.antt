@@ -1,12 +1,11 @@
 -- Patterns, substitutions, and matching.
-use Prim.Native.Nat.{ℕ, zero, suc, _+_, _≤_, _<_}
+use Prim.Native.Nat.{ℕ, zero, suc, _≤_, _<_}
 use mathlib.Core.List.{List, [], _∷_, _++_}
 use mathlib.Core.Bool.{Bool, true, false, _&&_, _||_}
 use mathlib.Core.Option.{Option, none, some}
 use mathlib.Core.Path.{_≡_}
 use lib.Dec.{leb, ltb, eqb}
-use lib.ListN.{length}
-use Rattle.model.specs.Limits.{childLimit, itemLimit, variableLimit}
+use Rattle.model.specs.Limits.{childLimit, variableLimit}
 use Rattle.model.specs.Term.{Terms, noTerms, tree, unmarked, Term, put, one, strip, sameOp, same}
 
 -- "A pattern is read item by item, children inside parents": an item is a variable, or an operator with its child count

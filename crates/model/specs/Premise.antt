@@ -2,7 +2,6 @@
 use Prim.Native.Nat.{ℕ}
 use mathlib.Core.List.{List, [], _∷_}
 use Rattle.model.specs.declared.Connection.{Connection}
-use Rattle.model.specs.declared.Direction.{Direction}
 use Rattle.model.specs.declared.Direction.the-variants.{Forward, Backward}
 use Rattle.model.specs.declared.Justification.{Justification}
 use Rattle.model.specs.declared.Justification.the-variants.{Rule as byRule, Congruence}

@@ -1,6 +1,5 @@
 -- Document 01's P rows, computed: one list of inputs with the outputs they must give, and one claim.
 -- Behind P1 to P12 stand rows for the errors that look right (E1 to E5), the end of the input (E6, E7) and a run that goes on (E8).
-use Prim.Native.Nat.{ℕ}
 use Prim.Native.String.{String, _++_}
 use mathlib.Core.List.{List, [], _∷_, map}
 use mathlib.Core.Path.{_≡_, refl}

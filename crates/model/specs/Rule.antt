@@ -1,14 +1,12 @@
 -- The rule table, and how its entries are judged (2, 3, 5).
-use Prim.Native.Nat.{ℕ, zero, suc, _+_, _≤_, _<_}
-use mathlib.Core.List.{List, [], _∷_, _++_}
+use Prim.Native.Nat.{ℕ}
+use mathlib.Core.List.{List, [], _∷_}
 use mathlib.Core.Bool.{Bool, true, false, not, _&&_, _||_}
 use mathlib.Core.Option.{Option, none, some}
-use mathlib.Core.Path.{_≡_}
-use lib.Dec.{leb, ltb, eqb}
+use lib.Dec.{leb, eqb}
 use lib.ListN.{length}
 use Rattle.model.specs.Limits.{ruleLimit, itemLimit}
-use Rattle.model.specs.Term.{Terms}
-use Rattle.model.specs.Pattern.{Item, Patterns, countP, readP, CutP, cutP, items, bound, Instance, fits}
+use Rattle.model.specs.Pattern.{Item, Patterns, countP, readP, items, bound}
 use Rattle.model.specs.Judged.{Judged, good, bad, refuseIf}
 
 -- "Every rule has two patterns."

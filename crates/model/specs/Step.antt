@@ -1,11 +1,11 @@
 -- The step that the checker wants: rewriting by substitution (Baader and Nipkow), at several places side by side.
-use Prim.Native.Nat.{ℕ, zero, suc, _+_}
-use mathlib.Core.List.{List, [], _∷_}
+use Prim.Native.Nat.{ℕ}
+use mathlib.Core.List.{List}
 use mathlib.Core.Bool.{Bool, true, false, not, _&&_, _||_}
 use mathlib.Core.Option.{Option, none, some}
 use mathlib.Core.Path.{_≡_}
 use Rattle.model.specs.Term.{Mark, unmarked, forward, backward, Terms, noTerms, tree, sameOp}
-use Rattle.model.specs.Pattern.{Patterns, Instance, fits}
+use Rattle.model.specs.Pattern.{Instance, fits}
 use Rattle.model.specs.Rule.{Rule, listed, isListed}
 
 -- The two subterms of a mark's place are an instance of the rule that the mark names, which is listed: its left side the

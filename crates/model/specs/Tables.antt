@@ -2,22 +2,22 @@
 -- A node is 10 words: operator, count, eight child slots. A rule is 387: number, left items, right items, 64 and 64 slots of
 -- 3 words (kind, variable or operator, count). A connection is 5: current, next, kind, rule, forward, as in its frame.
 -- Slots that a count leaves unused, and a variable's count, play no part.
-use Prim.Native.Nat.{ℕ, zero, suc, _+_, _*_, _/_, _≤_, _<_}
-use mathlib.Core.Bool.{Bool, true, false, not, _&&_, _||_}
-use mathlib.Core.List.{List, [], _∷_, _++_}
+use Prim.Native.Nat.{ℕ, zero, suc, _+_, _*_, _/_}
+use mathlib.Core.Bool.{Bool, true, false, _&&_}
+use mathlib.Core.List.{List, [], _∷_}
 use mathlib.Core.Option.{Option, none, some}
-use lib.Dec.{leb, ltb, eqb}
+use lib.Dec.{leb}
 use lib.ListN.{length, getD, replicate}
 use Rattle.model.specs.declared.Answer.{Answer}
-use Rattle.model.specs.declared.Answer.the-variants.{Written, Refused}
+use Rattle.model.specs.declared.Answer.the-variants.{Refused}
 use Rattle.model.specs.declared.Connection.{Connection}
 use Rattle.model.specs.declared.Direction.{Direction}
 use Rattle.model.specs.declared.Direction.the-variants.{Forward, Backward}
 use Rattle.model.specs.declared.Justification.{Justification}
 use Rattle.model.specs.declared.Justification.the-variants.{Rule as byRule, Congruence}
 use Rattle.model.specs.declared.Verdict.{Verdict}
-use Rattle.model.specs.declared.Verdict.the-variants.{Accepted, Rejected}
-use Rattle.model.specs.Limits.{childLimit, itemLimit, variableLimit}
+use Rattle.model.specs.declared.Verdict.the-variants.{Rejected}
+use Rattle.model.specs.Limits.{childLimit, itemLimit}
 use Rattle.model.specs.Judged.{Judged, good, bad}
 use Rattle.model.specs.Pattern.{Item, variable, operator, Patterns}
 use Rattle.model.specs.Rule.{Rule, side, ruleOf, addRule}

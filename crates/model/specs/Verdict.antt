@@ -1,15 +1,15 @@
 -- What the strict checker says of words, over accepted rules: declaratively, and computed in document 01's order.
-use Prim.Native.Nat.{ℕ, zero, suc, _+_, _≤_}
-use mathlib.Core.List.{List, [], _∷_}
+use Prim.Native.Nat.{ℕ, suc, _≤_}
+use mathlib.Core.List.{List}
 use mathlib.Core.Bool.{Bool, true, false, not, _&&_, _||_}
 use mathlib.Core.Option.{Option, none, some}
 use mathlib.Core.Path.{_≡_}
-use lib.Dec.{leb, ltb, eqb}
+use lib.Dec.{ltb}
 use lib.ListN.{length}
 use Rattle.model.specs.declared.Verdict.{Verdict}
 use Rattle.model.specs.declared.Verdict.the-variants.{Accepted, Rejected}
 use Rattle.model.specs.Limits.{termLimit, wordLimit}
-use Rattle.model.specs.Term.{Mark, Terms, noTerms, tree, count, read, Reads}
+use Rattle.model.specs.Term.{Terms, noTerms, tree, count, read, Reads}
 use Rattle.model.specs.Rule.{Rule}
 use Rattle.model.specs.Step.{Step, step, someMark, isMark, isForward, isBackward, nested, unlisted}
 

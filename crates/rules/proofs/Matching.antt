@@ -8,7 +8,6 @@ use mathlib.Core.Logic.{_↔_}
 use native.Mathlib.Omega.{arith}
 use native.Mathlib.Decide.{ℕ-discrete}
 use borrow.Author.Tests.{eq-eqb, ne-eqb, eqb-true, eqb-false}
-use lib.Dec.{eqb}
 use Rattle.model.specs.Term.{Mark, unmarked, Terms, noTerms, tree, Term, one, strip, stripped, sameOp, same}
 use Rattle.model.specs.Pattern.{Patterns, noPatterns, var, app, Substitution, inst, Instance, Bound, unbound, bind, keepIf, meet, andThen, match, found, fits}
 use Rattle.terms.specs.Place.{Decides}

@@ -1,10 +1,9 @@
 -- `checker::later_terms` meets its contract. The loop's invariant: the verdict on what is left behind the term at `before` is that on all
 -- terms. The measure is how many terms are left. Assumes nothing.
-use borrow.Author.Needs.{needs}
 use native.Mathlib.Omega.{arith}
 use Prim.Native.Nat.{ℕ, zero, suc, _-_, _<_}
 use mathlib.Core.List.{List}
-use mathlib.Core.Path.{_≡_, sym, subst, _∙_}
+use mathlib.Core.Path.{subst}
 use Rattle.terms.specs.Place.{Well}
 use Rattle.terms.proofs.Place.{row-well}
 use Rattle.marks.specs.Marks.{HasRow}

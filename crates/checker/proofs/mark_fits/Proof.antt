@@ -1,10 +1,9 @@
 -- `checker::mark_fits` meets its contract: forward, backward, or no mark at all.
 -- Assumes nothing.
 use borrow.Author.Needs.{needs}
-use Prim.Native.Nat.{ℕ, _+_}
+use Prim.Native.Nat.{ℕ}
 use mathlib.Core.List.{List}
 use mathlib.Core.Path.{_≡_, sym, ap, _∙_}
-use lib.ListN.{getD}
 use Rattle.model.specs.Term.{Term, one, markWord, ruleWord}
 use Rattle.model.specs.Rule.{listed}
 use Rattle.model.specs.Step.{fitsRule}

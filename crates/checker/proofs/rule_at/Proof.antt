@@ -2,12 +2,11 @@
 -- Assumes nothing.
 use borrow.Author.Needs.{needs}
 use mathlib.Core.Option.{Option}
-use mathlib.Core.Path.{_≡_, sym, ap, _∙_}
-use Rattle.model.specs.Judged.{good}
+use mathlib.Core.Path.{sym, ap, _∙_}
 use Rattle.model.specs.Term.{one}
 use Rattle.model.specs.Rule.{Rule}
 use Rattle.model.specs.Step.{fitsRule}
-use Rattle.rule_table.proofs.Entries.{Entry, entry-at, place-at, listed-place, ruleAt, rules-room, rule-nowhere}
+use Rattle.rule_table.proofs.Entries.{entry-at, place-at, listed-place, ruleAt, rules-room, rule-nowhere}
 use Rattle.checker.proofs.rule_at.Statement.{statement}
 use Rattle.checker.proofs.rule_at.Tie as tie
 

@@ -3,10 +3,10 @@
 use borrow.Author.Needs.{needs}
 use borrow.Author.Tests.{not-true, not-false}
 use native.Mathlib.Omega.{arith}
-use Prim.Native.Nat.{ℕ, _-_}
+use Prim.Native.Nat.{_-_}
 use mathlib.Core.Path.{_≡_, subst}
 use lib.ListN.{length}
-use Rattle.checker.proofs.Pairs.{StepHere, step-first, step-next, step-off, step-done, Ready, step-ready, Further, step-further}
+use Rattle.checker.proofs.Pairs.{StepHere, step-first, step-next, step-off, step-done, step-ready, step-further}
 use Rattle.checker.proofs.step_at.Statement.{statement}
 use Rattle.checker.proofs.step_at.Tie as tie
 

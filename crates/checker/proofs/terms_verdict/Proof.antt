@@ -4,9 +4,8 @@ use borrow.Author.Needs.{needs}
 use native.Mathlib.Omega.{arith}
 use Prim.Native.Nat.{ℕ, zero, suc, _<_}
 use mathlib.Core.List.{List}
-use mathlib.Core.Path.{_≡_, subst, _∙_}
+use mathlib.Core.Path.{subst, _∙_}
 use Rattle.model.specs.Term.{one}
-use Rattle.terms.specs.Place.{Well}
 use Rattle.terms.proofs.Place.{row-well, term-row}
 use Rattle.marks.specs.Marks.{HasRow, MarkedIs}
 use Rattle.checker.proofs.Later.{terms-many, terms-marked, terms-later}

@@ -1,7 +1,7 @@
 -- `costs::cost_of` meets its contract: a rule is 1, and a congruence its children's distances, which the table's costs give.
 use borrow.Author.Needs.{needs}
 use native.Mathlib.Omega.{arith}
-use Prim.Native.Nat.{_-_, _/_}
+use Prim.Native.Nat.{_/_}
 use mathlib.Core.Path.{sym, ap, _∙_, subst}
 use lib.ListN.{length}
 use Rattle.model.specs.declared.Connection.{Connection}

@@ -2,12 +2,13 @@
 -- Assumes nothing.
 use borrow.Author.Needs.{needs}
 use Prim.Native.Nat.{ℕ}
-use mathlib.Core.Path.{_≡_, sym, ap, _∙_}
+use mathlib.Core.Path.{sym, ap, _∙_}
 use lib.ListN.{length, length-replicate}
 use Rattle.model.specs.Judged.{judgementOf}
-use Rattle.forest.proofs.Whole.{NodesWhole, nodes-whole}
+use Rattle.forest.specs.Whole.{NodesWhole}
+use Rattle.forest.proofs.Whole.{nodes-whole}
 use Rattle.explanation.specs.Measure.{parentsBy}
-use Rattle.explanation.proofs.Whole.{bad-nodes, bad-rules, Decides, connections-decide}
+use Rattle.explanation.proofs.Whole.{bad-nodes, bad-rules, connections-decide}
 use Rattle.explanation.proofs.judge_tables.Statement.{statement}
 use Rattle.explanation.proofs.judge_tables.Tie as tie
 

@@ -40,8 +40,8 @@ wide-requires-2 c κs = search needs
 
 returns : tie.Need-returns Inv-loop μ-loop
 returns c =
-    lower-off (c .before .before .before .before .loop .inv .1) (omega arith)
-    (omega (arith, c .before .wide2 .ensures, c .before .before .word2 .ensures))
+    let i = c .before .before .before .before .loop .inv in
+    lower-off (i .1) (omega arith) (omega (arith, c .before .wide2 .ensures, c .before .before .word2 .ensures))
 
 add-i : tie.Need-add-i Inv-loop μ-loop
 add-i c = search needs
@@ -51,7 +51,8 @@ loop-less c = search needs
 
 loop-again : tie.Need-loop-again Inv-loop μ-loop
 loop-again c =
-    (c .before .before .before .before .loop .inv .0, lower-next (c .before .before .before .before .loop .inv .1) (omega arith) (omega (arith, c .before .wide2 .ensures, c .before .before .word2 .ensures)))
+    let i = c .before .before .before .before .loop .inv in
+    (i .0, lower-next (i .1) (omega arith) (omega (arith, c .before .wide2 .ensures, c .before .before .word2 .ensures)))
 
 returns-2 : tie.Need-returns-2 Inv-loop μ-loop
 returns-2 c = lower-done (c .before .loop .inv .1) (omega arith)

@@ -1,6 +1,5 @@
 -- `forest::connection_at` meets its contract: each word that is read is the one that the definition names.
 use borrow.Author.Needs.{needs}
-use Prim.Native.Nat.{_-_}
 use mathlib.Core.Path.{sym, ap, _∙_}
 use Rattle.forest.specs.Tables.{directionIn}
 use Rattle.forest.proofs.Tables.{connection-cong, connection-rule}

@@ -1,7 +1,7 @@
 -- `forest::depth_of` meets its contract. The steps taken and the depth of where the climb is make the depth of where it began.
 use borrow.Author.Needs.{needs}
 use native.Mathlib.Omega.{arith}
-use Prim.Native.Nat.{ℕ, _+_, _-_, _<_, suc}
+use Prim.Native.Nat.{ℕ, _+_, _<_, suc}
 use mathlib.Core.Path.{_≡_, sym, ap, _∙_}
 use Rattle.model.specs.Limits.{nodeLimit}
 use Rattle.forest.specs.Hangs.{depth}

@@ -1,6 +1,5 @@
 -- `forest::direction_of` meets its contract, by the cases of the word.
 use borrow.Author.Needs.{needs}
-use Prim.Native.Nat.{_-_}
 use Rattle.forest.proofs.Tables.{is-forward}
 use Rattle.forest.proofs.direction_of.Statement.{statement}
 use Rattle.forest.proofs.direction_of.Tie as tie

@@ -1,6 +1,5 @@
 -- `forest::hang` meets its contract: the word that is written is the one of the node.
 use borrow.Author.Needs.{needs}
-use Prim.Native.Nat.{_-_}
 use Rattle.forest.proofs.hang.Statement.{statement}
 use Rattle.forest.proofs.hang.Tie as tie
 

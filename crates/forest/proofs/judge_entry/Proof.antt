@@ -1,6 +1,5 @@
 -- `forest::judge_entry` meets its contract: an entry that is not there is 2, and one that is there is judged as the connection it holds.
 use borrow.Author.Needs.{needs}
-use Prim.Native.Nat.{_-_}
 use mathlib.Core.Path.{sym, ap, _∙_}
 use mathlib.Core.Option.{some}
 use borrow.Author.Tests.{not-true, not-false}

@@ -1,7 +1,7 @@
 -- `forest::judge_node` meets its contract: 2, then 3, then 4, each by its test.
 use borrow.Author.Needs.{needs}
 use native.Mathlib.Omega.{arith}
-use Prim.Native.Nat.{ℕ, _-_}
+use Prim.Native.Nat.{ℕ}
 use mathlib.Core.Path.{sym, ap, _∙_}
 use mathlib.Core.Bool.{true, false}
 use Rattle.model.specs.Node.{allBelow}

@@ -1,6 +1,5 @@
 -- `forest::linked` meets its contract: two nodes are joined where their climbs meet.
 use borrow.Author.Needs.{needs}
-use Prim.Native.Nat.{_-_}
 use mathlib.Core.Path.{sym, ap, _∙_}
 use Rattle.forest.specs.Meet.{found}
 use Rattle.forest.proofs.Climbs.{meet-joined}

@@ -1,7 +1,8 @@
--- `forest::meet` meets its contract. The deeper of the two ends climbs, and where they meet stays the same; the depths say when both are at the top.
+-- `forest::meet` meets its contract. The deeper of the two ends climbs, and where they meet stays the same; the depths say
+-- when both are at the top.
 use borrow.Author.Needs.{needs}
 use native.Mathlib.Omega.{arith}
-use Prim.Native.Nat.{_+_, _-_}
+use Prim.Native.Nat.{_+_}
 use mathlib.Core.Path.{refl, sym, ap, _∙_}
 use Rattle.forest.specs.Tables.{oldest}
 use Rattle.forest.specs.Meet.{meetOf}
@@ -10,7 +11,8 @@ use Rattle.forest.proofs.meet.Statement.{statement}
 use Rattle.forest.proofs.meet.Tie as tie
 
 abbrev Inv-loop : tie.InvT-loop
-Inv-loop parents conns count l₀ r₀ dl₀ dr₀ l r dl dr = Climb (oldest count conns) (l₀ .0) (r₀ .0) (l .0) (r .0) dl dr
+Inv-loop parents conns count l₀ r₀ dl₀ dr₀ l r dl dr =
+    Climb (oldest count conns) (l₀ .0) (r₀ .0) (l .0) (r .0) dl dr
 
 abbrev μ-loop : tie.MeasureT-loop
 μ-loop parents conns count l₀ r₀ dl₀ dr₀ l r dl dr = dl + dr
@@ -36,11 +38,10 @@ loop-less c = omega arith
 
 loop-again : tie.Need-loop-again Inv-loop μ-loop
 loop-again c =
+    let s = c .before .before .before .before .before .before .before .before .before .before in
     let l = c .before .before .before .before .before .loop in
-    right-up _ _ _ _ _ _ _
-    (c .before .before .before .before .before .before .before .before .before .before .pre .0 .forest) (l .inv)
-    (c .before .before .if1 .left) _
-    (c .next-of .ensures .1) (c .before .if2 .taken) (c .next-of .ensures .0)
+    let n = c .next-of .ensures in
+    right-up _ _ _ _ _ _ _ (s .pre .0 .forest) (l .inv) (c .before .before .if1 .left) _ (n .1) (c .before .if2 .taken) (n .0)
 
 next-of-requires-2 : tie.Need-next-of-requires-2 Inv-loop μ-loop
 next-of-requires-2 c κs = search needs
@@ -53,11 +54,10 @@ loop-less-2 c = omega arith
 
 loop-again-2 : tie.Need-loop-again-2 Inv-loop μ-loop
 loop-again-2 c =
+    let s = c .before .before .before .before .before .before .before .before .before .before .before in
     let l = c .before .before .before .before .before .before .loop in
-    left-up _ _ _ _ _ _ _
-    (c .before .before .before .before .before .before .before .before .before .before .before .pre .0 .forest) (l .inv)
-    (c .before .before .before .if1 .left) _
-    (c .next-of2 .ensures .1) (c .before .before .if2 .left) (c .before .if3 .left) (c .next-of2 .ensures .0)
+    let n = c .next-of2 .ensures in
+    left-up _ _ _ _ _ _ _ (s .pre .0 .forest) (l .inv) (c .before .before .before .if1 .left) _ (n .1) (c .before .before .if2 .left) (c .before .if3 .left) (n .0)
 
 returns : tie.Need-returns Inv-loop μ-loop
 returns c =
@@ -66,8 +66,9 @@ returns c =
 
 returns-2 : tie.Need-returns-2 Inv-loop μ-loop
 returns-2 c =
+    let s = c .before .before .before .before .before .before .before .before .before .before in
     let l = c .before .before .before .before .before .loop in
-    sym (meet-nowhere _ _ _ (c .before .before .before .before .before .before .before .before .before .before .pre .0 .forest) (c .before .before .if1 .left) (omega arith) (omega arith)) ∙ l .inv .same
+    sym (meet-nowhere _ _ _ (s .pre .0 .forest) (c .before .before .if1 .left) (omega arith) (omega arith)) ∙ l .inv .same
 
 pub meet-spec : {M : Type 1} → statement M
 meet-spec =

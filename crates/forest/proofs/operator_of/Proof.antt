@@ -1,6 +1,5 @@
 -- `forest::operator_of` meets its contract: the word that is read is the one that the definition names.
 use borrow.Author.Needs.{needs}
-use Prim.Native.Nat.{_-_}
 use Rattle.forest.proofs.operator_of.Statement.{statement}
 use Rattle.forest.proofs.operator_of.Tie as tie
 

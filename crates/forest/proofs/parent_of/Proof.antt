@@ -1,6 +1,5 @@
 -- `forest::parent_of` meets its contract: the word that is read is the one asked for.
 use borrow.Author.Needs.{needs}
-use Prim.Native.Nat.{_-_}
 use Rattle.forest.proofs.parent_of.Statement.{statement}
 use Rattle.forest.proofs.parent_of.Tie as tie
 

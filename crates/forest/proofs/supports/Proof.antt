@@ -1,6 +1,6 @@
 -- `forest::supports` meets its contract: unequal operators or unequal counts decide, else the pairs of children do.
 use borrow.Author.Needs.{needs}
-use Prim.Native.Nat.{_+_, _*_, _-_}
+use Prim.Native.Nat.{_+_, _*_}
 use mathlib.Core.Path.{_≡_, refl, sym, ap₂, _∙_}
 use lib.ListN.{getD}
 use mathlib.Core.Bool.{true, false, and-false}
@@ -18,15 +18,15 @@ operator-of-requires c κs = search needs
 operator-of-requires-2 : tie.Need-operator-of-requires-2
 operator-of-requires-2 c κs = search needs
 
-same-operator-requires : tie.Need-same-operator-requires
-same-operator-requires c κs = search needs
+same-op-requires : tie.Need-same-op-requires
+same-op-requires c κs = search needs
 
 returns : tie.Need-returns
 returns c =
     let s = c .before .before .before .before .before .before .before .args in
     let e : sameOp (getD (s .nodes .now) (s .a .0 * 10) 0) (getD (s .nodes .now) (s .b .0 * 10) 0) ≡ false =
     ap₂ sameOp (sym (c .before .before .before .operator-of .ensures)) (sym (c .before .before .operator-of2 .ensures))
-    ∙ sym (c .before .same-operator .ensures) ∙ not-true _ (c .if1 .taken) in
+    ∙ sym (c .before .same-op .ensures) ∙ not-true _ (c .if1 .taken) in
     rw e refl
 
 count-of-requires : tie.Need-count-of-requires
@@ -54,7 +54,7 @@ returns-3 c =
     let e : sameOp (getD (s .nodes .now) (s .a .0 * 10) 0) (getD (s .nodes .now) (s .b .0 * 10) 0) ≡ true =
     ap₂ sameOp (sym (c .before .before .before .before .before .before .before .operator-of .ensures))
     (sym (c .before .before .before .before .before .before .operator-of2 .ensures))
-    ∙ sym (c .before .before .before .before .before .same-operator .ensures)
+    ∙ sym (c .before .before .before .before .before .same-op .ensures)
     ∙ not-false _ (c .before .before .before .before .if1 .left) in
     c .children-linked .ensures ∙ rw e refl
 
@@ -64,7 +64,7 @@ supports-spec =
     (tie.spec
     operator-of-requires
     operator-of-requires-2
-    same-operator-requires
+    same-op-requires
     returns
     count-of-requires
     count-of-requires-2
