@@ -5,6 +5,7 @@ use std::fmt::{self, Debug, Display, Formatter};
 use std::hash::Hash;
 use std::marker::PhantomData;
 use std::ops::Deref;
+use std::sync::atomic::{AtomicBool, Ordering};
 
 pub type HashMap<K, V> = std::collections::HashMap<K, V>;
 pub type HashSet<K> = std::collections::HashSet<K>;
@@ -50,7 +51,7 @@ impl Debug for Symbol {
 #[derive(Clone, Copy, PartialEq, Eq, PartialOrd, Ord, Hash, Debug)]
 pub struct Var(pub u8);
 
-/// The part of egg's trait that explain.rs calls. `matches` there has to compare operator and arity, not the children.
+/// The part of egg's trait that explain.rs calls. `matches` compares two nodes but for which children they have.
 pub trait Language: Debug + Clone + Eq + Ord + Hash {
     fn matches(&self, other: &Self) -> bool;
     fn children(&self) -> &[Id];
@@ -75,6 +76,9 @@ pub trait Language: Debug + Clone + Eq + Ord + Hash {
     }
 }
 
+/// Whether `matches` is to compare operators alone: egg's languages were not given, and explain.rs leaves it to them.
+pub static OPERATORS_ALONE: AtomicBool = AtomicBool::new(false);
+
 /// For egg's `SymbolLang`: an operator and its children. Equal operators and equal counts match.
 #[derive(Clone, PartialEq, Eq, PartialOrd, Ord, Hash, Debug)]
 pub struct Node {
@@ -84,7 +88,8 @@ pub struct Node {
 
 impl Language for Node {
     fn matches(&self, other: &Self) -> bool {
-        self.op == other.op && self.children.len() == other.children.len()
+        let counts = self.children.len() == other.children.len();
+        self.op == other.op && (counts || OPERATORS_ALONE.load(Ordering::Relaxed))
     }
     fn children(&self) -> &[Id] {
         &self.children

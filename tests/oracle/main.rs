@@ -3,7 +3,8 @@
 //! explain/seam.rs is the way in, and this file reads lines and prints answers.
 //!
 //! With the word `union` as argument the forest is built by egg's own `union`, which turns trees round, instead of from the connections
-//! as they are given. What is joined, and by what, is the same then, and so must be every answer.
+//! as they are given. What is joined, and by what, is the same then, and so must be every answer. With the word `operators` a node
+//! matches another of the same operator, whatever their child counts.
 //!
 //! Tables are believed: nothing is judged. A query prints `distance D` and each flat term on a line of its own (the distance alone
 //! where it is above 4,095, since the flat proof may then be too large to hold); an offered proof prints `passes`, `fails`
@@ -135,8 +136,12 @@ fn caught<T>(f: impl FnOnce() -> T) -> Result<T, String> {
     })
 }
 
+fn asked_for(word: &str) -> bool {
+    std::env::args().any(|w| w == word)
+}
+
 fn forest_of(tables: &Tables) -> Explain<Node> {
-    let by_union = std::env::args().any(|word| word == "union");
+    let by_union = asked_for("union");
     let mut forest = Explain::base();
     for node in &tables.nodes {
         forest.plant(node.clone());
@@ -238,6 +243,7 @@ fn run(input: &str) -> String {
 }
 
 fn main() {
+    OPERATORS_ALONE.store(asked_for("operators"), std::sync::atomic::Ordering::Relaxed);
     let mut input = String::new();
     std::io::stdin().read_to_string(&mut input).unwrap();
     // egg recurses over terms and nodes
