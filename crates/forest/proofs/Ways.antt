@@ -17,13 +17,22 @@ unfoldable pub climbBy : List Connection → ℕ → ℕ → ℕ
 climbBy cs zero n = n
 climbBy cs (suc k) n = climbBy cs k (nextOf cs n)
 
-next-high : (cs : List Connection) (n : ℕ) → Forest cs → root cs n ≡ n → depth cs n ≡ 0 → nextOf cs n ≡ n
+pub next-high : (cs : List Connection) (n : ℕ) → Forest cs → root cs n ≡ n → depth cs n ≡ 0 → nextOf cs n ≡ n
 unfolding nextOf
 next-high cs n f a b = go (parentOf cs n) refl
   where
     go : (p : Parent) → parentOf cs n ≡ p → nextOf cs n ≡ n
     go top q = rw q
     go (below c o) q = absurd (omega (arith, depth-below cs n f q))
+
+-- a climb stays among joined nodes: two climbs that meet are of joined nodes
+pub root-climb : (k : ℕ) (cs : List Connection) (n : ℕ) → Forest cs → root cs (climbBy cs k n) ≡ root cs n
+unfolding climbBy
+root-climb zero cs n f = refl
+root-climb (suc k) cs n f = root-climb k cs (nextOf cs n) f ∙ (elim (place cs n f) [
+  | high a b ↦ ap (root cs) (next-high cs n f a b)
+  | low c o a b t ↦ ap (root cs) b ∙ sym (root-below cs n f a)
+])
 
 -- a climb of k connections leads k less deep
 pub depth-climb : (k : ℕ) (cs : List Connection) (n : ℕ) → Forest cs → k ≤ depth cs n → depth cs n ≡ k + depth cs (climbBy cs k n)
@@ -152,15 +161,6 @@ module _ {A : Type 0} (e : A) (_·_ : A → A → A) (step : List Connection →
 
     pub meets : (cs : List Connection) (l r : ℕ) → Forest cs → root cs l ≡ root cs r → Meets cs l r
     meets cs l r f j = meets-by (depth cs l + depth cs r) cs l r f j (omega arith)
-
-    -- and two climbs that meet are of joined nodes
-    pub root-climb : (k : ℕ) (cs : List Connection) (n : ℕ) → Forest cs → root cs (climbBy cs k n) ≡ root cs n
-    unfolding climbBy
-    root-climb zero cs n f = refl
-    root-climb (suc k) cs n f = root-climb k cs (nextOf cs n) f ∙ (elim (place cs n f) [
-      | high a b ↦ ap (root cs) (next-high cs n f a b)
-      | low c o a b t ↦ ap (root cs) b ∙ sym (root-below cs n f a)
-    ])
 
     -- one step more at the top of the climb up, one step less of the climb down: what two loops write
     pub ups-more : (k : ℕ) (cs : List Connection) (n : ℕ) → ups cs (suc k) n ≡ _·_ (ups cs k n) (hop cs (climbBy cs k n) true)

@@ -1,5 +1,5 @@
 -- Document 01's P rows, computed: one list of inputs with the outputs they must give, and one claim.
--- Behind P1 to P12 stand rows for the errors that look right (E1 to E5), the end of the input (E6, E7) and a run that goes on (E8).
+-- Behind P1 to P12 stand rows for the errors that look right (E1 to E5), the end of the input (E6, E7), a run that goes on (E8) and directions (E9).
 use Prim.Native.String.{String, _++_}
 use mathlib.Core.List.{List, [], _∷_, map}
 use mathlib.Core.Path.{_≡_, refl}
@@ -108,6 +108,11 @@ rows =
     ∷ record { input = tables ++ "0400020003"; expected = "refused 1 line 8\n" }
     -- E8 a refused query, and the run goes on
     ∷ record { input = tables ++ "0400000002\n" ++ "0400010001\n"; expected = "refused 9 line 8\n" ++ "distance 0\n" ++ "o2\n" }
+    -- E9 a backward connection, walked from current to next and the other way
+    ∷ record {
+      input = "01000100\n" ++ "01000200\n" ++ "030000000101000700\n" ++ "0400000001\n" ++ "0400010000\n";
+      expected = "distance 1\n" ++ "o1\n" ++ "(Rewrite<= r7 o2)\n" ++ "distance 1\n" ++ "o2\n" ++ "(Rewrite=> r7 o1)\n";
+    }
     ∷ []
 
 claim : map (λ r. output (bytes (r .input))) rows ≡ map (λ r. bytes (r .expected)) rows
