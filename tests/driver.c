@@ -1,5 +1,6 @@
 /* Calls the library on the cases that it reads from standard input, and prints each answer on a line.
    A case is eight 32-bit numbers (what to call, the lengths of four runs of words, two numbers, and how often), and the four runs.
+   With 16 added to what to call, a line has one number more: how many bytes of stack the calls used.
    No header of the C library is wanted, so that the toolchain's own compiler is enough. */
 #include "../include/erbighenti.h"
 
@@ -32,6 +33,25 @@ static uint16_t *run(uint32_t length)
     return words;
 }
 
+/* The stack below this function's caller, filled with a pattern by `paint`, and after a call looked at again: what was overwritten was used. */
+enum { DEPTH = 1 << 20, PATTERN = 0xa5 };
+
+static __attribute__((noinline)) void paint(void)
+{
+    volatile unsigned char below[DEPTH];
+    for (size_t k = 0; k < DEPTH; k++)
+        below[k] = PATTERN;
+}
+
+static __attribute__((noinline)) size_t used(void)
+{
+    volatile unsigned char below[DEPTH];
+    size_t k = 0;
+    while (k < DEPTH && below[k] == PATTERN)
+        k++;
+    return DEPTH - k;
+}
+
 int main(void)
 {
     uint32_t head[8];
@@ -39,15 +59,22 @@ int main(void)
         uint16_t *nodes = run(head[1]), *rules = run(head[2]), *connections = run(head[3]), *words = run(head[4]);
         uint64_t value = 0;
         uint16_t number = 0;
+        uint32_t what = head[0] & 15, measured = head[0] & 16;
+        if (measured)
+            paint();
         long began = clock();
         for (uint32_t k = 0; k < head[7]; k++) {
             value = 77;
-            if (head[0] == 1)
+            if (what == 1)
                 number = erbighenti_check(nodes, head[1], rules, head[2], connections, head[3], words, head[4], &value);
-            else if (head[0] == 2)
+            else if (what == 2)
                 number = erbighenti_distance(nodes, head[1], rules, head[2], connections, head[3], (uint16_t)head[5], (uint16_t)head[6], &value);
         }
-        printf("%u %llu %ld\n", number, (unsigned long long)value, clock() - began);
+        size_t stack = measured ? used() : 0;
+        printf("%u %llu %ld", number, (unsigned long long)value, clock() - began);
+        if (measured)
+            printf(" %lu", (unsigned long)stack);
+        printf("\n");
         free(nodes), free(rules), free(connections), free(words);
     }
     return 0;

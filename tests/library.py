@@ -3,6 +3,7 @@ import os, platform, struct, subprocess
 
 TOP = os.path.dirname(os.path.dirname(os.path.abspath(__file__)))
 CHECK, DISTANCE = 1, 2
+MEASURED = 16                    # added to one of them: how many bytes of stack it used is a fourth number of the answer
 
 
 def run(*command):
