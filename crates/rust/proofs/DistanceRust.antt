@@ -1,7 +1,6 @@
 -- The Rust's distance of two joined nodes is document 01's.
 use Prim.Native.Nat.{ℕ, zero, suc, _+_, _*_, _≤_, _<_}
 use mathlib.Core.Path.{_≡_, refl, sym, ap, ap₂, _∙_}
-use mathlib.Core.Bool.{Bool}
 use mathlib.Core.List.{List, [], _∷_}
 use native.Mathlib.Omega.{arith}
 use native.Mathlib.Decide.{ℕ-discrete}
@@ -11,37 +10,15 @@ use Rattle.model.specs.declared.Connection.{Connection}
 use Rattle.model.specs.declared.Justification.{Justification}
 use Rattle.model.specs.declared.Justification.the-variants.{Rule as byRule, Congruence}
 use Rattle.model.specs.Node.{Node, kidsOf}
-use Rattle.model.specs.Forest.{cur, nxt, root, walk, dist, costBy, sumPairs}
+use Rattle.model.specs.Forest.{cur, nxt, root, dist, costBy, sumPairs}
 use Rattle.forest.specs.Hangs.{Accepted, Sound, Paired}
-use Rattle.forest.proofs.Laws.{root-old, walk-old}
 use Rattle.forest.proofs.Joined.{dist-self}
 use Rattle.forest.proofs.Bound.{depth-le}
 use Rattle.forest.proofs.Accept.{accepted-forest, sound, kin}
 use Rattle.forest.proofs.Related.{Steps, related}
 use Rattle.rust.specs.Distances.{distanceBetween}
+use Rattle.rust.proofs.Behind.{Behind, all, older, accepted-behind, root-behind, walk-behind}
 use Rattle.rust.proofs.Climbs.{priced, past-ancestor}
-
--- a list of connections, and the older ones of it from some age on
-data Behind (os : List Connection) : List Connection → Type 0 where
-  all : Behind os os
-  newer : {c : Connection} {cs : List Connection} → Behind os cs → Behind os (c ∷ cs)
-
-older : {c : Connection} {os cs : List Connection} → Behind (c ∷ os) cs → Behind os cs
-older all = newer all
-older (newer b) = newer (older b)
-
-accepted-behind : (ns : List Node) {os cs : List Connection} → Behind os cs → Accepted ns cs → Accepted ns os
-accepted-behind ns all a = a
-accepted-behind ns (newer b) a = accepted-behind ns b (a .1)
-
-root-behind : {os cs : List Connection} (l r : ℕ) → Behind os cs → root os l ≡ root os r → root cs l ≡ root cs r
-root-behind l r all p = p
-root-behind l r (newer {c} {cs} b) p = root-old c cs l r (root-behind l r b p)
-
-walk-behind : (step : List Connection → (ℕ → ℕ → ℕ) → Connection → Bool → ℕ) {os cs : List Connection} (l r : ℕ) → Behind os cs →
-    root os l ≡ root os r → walk 0 _+_ step cs l r ≡ walk 0 _+_ step os l r
-walk-behind step l r all p = refl
-walk-behind step l r (newer {c} {cs} b) p = walk-old 0 _+_ step c cs l r (root-behind l r b p) ∙ walk-behind step l r b p
 
 -- a connection costs the same if the distances of its children are the same
 sum-same : (f g : ℕ → ℕ → ℕ) (cs : List Connection) (xs ys : List ℕ) → Paired cs xs ys → ((x y : ℕ) → root cs x ≡ root cs y → f x y ≡ g x y) →
@@ -87,7 +64,7 @@ module _ (rounds : ℕ) (ns : List Node) (cs : List Connection) (a : Accepted ns
             rw (ne-eqb _ _ e)
             (past-ancestor (distanceBetween nesting rounds ns cs) ns rounds cs l r f (root-behind l r b p)
             (omega (arith, depth-le cs l f, depth-le cs r f))
-            ∙ walk-behind (priced (distanceBetween nesting rounds ns cs) ns) l r b p
+            ∙ walk-behind 0 _+_ (priced (distanceBetween nesting rounds ns cs) ns) l r b p
             ∙ related 0 _+_ (priced (distanceBetween nesting rounds ns cs) ns) 0 _+_ (λ _ d c u. costBy ns d (c .why) (cur c) (nxt c)) (λ (x y : ℕ). x ≡ y) refl
             (λ x x′ y y′ p q. ap₂ _+_ p q) os l r (steps nesting (known nesting) os b (omega arith)))
       ]

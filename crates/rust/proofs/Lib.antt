@@ -1,5 +1,9 @@
 pub mod Trails
 pub mod Ancestor
 pub mod PathRust
+pub mod Behind
 pub mod Climbs
 pub mod DistanceRust
+pub mod Merged
+pub mod Children
+pub mod FlatRust
