@@ -1,7 +1,7 @@
 -- A pair of nodes of a step: what is left behind it steps exactly where the rows do. And the walk over both terms.
 -- Assumes nothing.
 use Prim.Native.Nat.{ℕ, zero, suc, _+_, _-_, _*_, _≤_, _<_}
-use mathlib.Core.Bool.{Bool, true, false, _&&_, and-assoc, true≢false}
+use mathlib.Core.Bool.{Bool, true, false, _&&_, and-assoc, and-eq-true-iff, true≢false}
 use mathlib.Core.List.{List}
 use mathlib.Core.Path.{_≡_, refl, sym, _∙_, ap, subst}
 use native.Mathlib.Omega.{arith}
@@ -20,7 +20,6 @@ use Rattle.marks.proofs.Left.{ends}
 use Rattle.rule_table.specs.Entries.{rulesIn, Accepted}
 use Rattle.checker.specs.declared.Pair.{Pair}
 use Rattle.checker.specs.Check.{AllowedIs, Goes, PairOk, PairIs, StepIs}
-use Rattle.checker.proofs.Steps.{both}
 
 -- rows that step have as many terms
 step-count : (rs : List Rule) (f g : Terms) → step rs f g ≡ true → count f ≡ count g
@@ -29,11 +28,11 @@ step-count rs noTerms noTerms h = refl
 step-count rs noTerms (tree o m k s) h = absurd (true≢false (sym h))
 step-count rs (tree o m k s) noTerms h = absurd (true≢false (sym h))
 step-count rs (tree o m k s) (tree o′ unmarked k′ s′) h =
-    let (a, b) = both (sameOp o o′) _ h in let (c, d) = both (step rs k k′) _ b in ap suc (step-count rs s s′ d)
+    let (a, b) = and-eq-true-iff (sameOp o o′) _ .0 h in let (c, d) = and-eq-true-iff (step rs k k′) _ .0 b in ap suc (step-count rs s s′ d)
 step-count rs (tree o m k s) (tree o′ (forward n) k′ s′) h =
-    let (a, b) = both (allowed rs (forward n) (tree o m k noTerms) (tree o′ (forward n) k′ noTerms)) _ h in ap suc (step-count rs s s′ b)
+    let (a, b) = and-eq-true-iff (allowed rs (forward n) (tree o m k noTerms) (tree o′ (forward n) k′ noTerms)) _ .0 h in ap suc (step-count rs s s′ b)
 step-count rs (tree o m k s) (tree o′ (backward n) k′ s′) h =
-    let (a, b) = both (allowed rs (backward n) (tree o m k noTerms) (tree o′ (backward n) k′ noTerms)) _ h in ap suc (step-count rs s s′ b)
+    let (a, b) = and-eq-true-iff (allowed rs (backward n) (tree o m k noTerms) (tree o′ (backward n) k′ noTerms)) _ .0 h in ap suc (step-count rs s s′ b)
 
 uneven : (rs : List Rule) (f g : Terms) → (count f ≡ count g → ⊥) → step rs f g ≡ false
 uneven rs f g h = go (step rs f g) refl

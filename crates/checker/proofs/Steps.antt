@@ -1,6 +1,6 @@
 -- The computed step is the declared one: `step` holds exactly where `Step` does.
 use Prim.Native.Nat.{ℕ}
-use mathlib.Core.Bool.{Bool, true, false, not, _&&_, _||_, true≢false}
+use mathlib.Core.Bool.{Bool, true, false, not, _&&_, _||_, and-eq-true-iff, true≢false}
 use mathlib.Core.List.{List}
 use mathlib.Core.Option.{Option, none, some}
 use mathlib.Core.Path.{_≡_, refl, sym, _∙_, ap, subst}
@@ -11,11 +11,6 @@ use Rattle.model.specs.Step.{ByRule, Allowed, Step, fitsRule, allowed, step, is
 use Rattle.model.specs.Pattern.{Patterns, Instance, fits}
 use Rattle.terms.specs.Place.{Decides}
 use Rattle.rules.proofs.Matching.{fits-decides}
-
--- both parts of a conjunction
-pub both : (a b : Bool) → (a && b) ≡ true → (a ≡ true) × (b ≡ true)
-both true b h = (refl, h)
-both false b h = absurd (true≢false (sym h))
 
 and : {a b : Bool} → a ≡ true → b ≡ true → (a && b) ≡ true
 and p q = cc
@@ -57,13 +52,13 @@ step-sound rs noTerms noTerms h = tt
 step-sound rs noTerms (tree o m k s) h = true≢false (sym h)
 step-sound rs (tree o m k s) noTerms h = true≢false (sym h)
 step-sound rs (tree o m k s) (tree o′ unmarked k′ s′) h =
-    let (a, b) = both _ _ h in
-    let (c, d) = both _ _ b in
+    let (a, b) = and-eq-true-iff _ _ .0 h in
+    let (c, d) = and-eq-true-iff _ _ .0 b in
     (eqb-true o o′ a, step-sound rs k k′ c, step-sound rs s s′ d)
 step-sound rs (tree o m k s) (tree o′ (forward n) k′ s′) h =
-    let (a, b) = both _ _ h in (allowed-sound rs (forward n) _ _ a, step-sound rs s s′ b)
+    let (a, b) = and-eq-true-iff _ _ .0 h in (allowed-sound rs (forward n) _ _ a, step-sound rs s s′ b)
 step-sound rs (tree o m k s) (tree o′ (backward n) k′ s′) h =
-    let (a, b) = both _ _ h in (allowed-sound rs (backward n) _ _ a, step-sound rs s s′ b)
+    let (a, b) = and-eq-true-iff _ _ .0 h in (allowed-sound rs (backward n) _ _ a, step-sound rs s s′ b)
 
 pub step-complete : (rs : List Rule) (s t : Terms) → Step rs s t → step rs s t ≡ true
 unfolding step Step

@@ -59,7 +59,7 @@ fn entry_fits(rules: &[u16], i: usize, words: &[u16], a: usize, b: usize) -> boo
     requires { ⌜ Well (now words) b ⌝ }
     ensures { λ r. ⌜ EntryFits (now (rules .entry)) i (now (words .entry)) a b r ⌝ }
 {
-    let left = i * RULE_WORDS + 3;
+    let left = i * RULE_WORDS + rule_table::LEFT;
     let right = left + SIDE_WORDS;
     let end = right + SIDE_WORDS;
     rules::rule_fits(&rules[left..right], &rules[right..end], words, a, b)

@@ -1,7 +1,7 @@
 -- What accepted connections are: a forest, each on its support.
 use Prim.Native.Nat.{ℕ, zero, suc, _<_}
 use mathlib.Core.Path.{_≡_, refl, sym, ap}
-use mathlib.Core.Bool.{Bool, true, false, not, _&&_, _||_, false≢true}
+use mathlib.Core.Bool.{Bool, true, false, not, _||_, false≢true, and-eq-true-iff}
 use mathlib.Core.List.{List, [], _∷_}
 use mathlib.Core.Option.{some}
 use native.Mathlib.Omega.{arith}
@@ -26,10 +26,6 @@ none-holds false true c d e p = absurd (false≢true (sym p))
 none-holds false false true d e p = absurd (false≢true (sym p))
 none-holds false false false true e p = absurd (false≢true (sym p))
 none-holds false false false false e p = (refl, refl, refl, refl, p)
-
-pub and-yes : (a b : Bool) → (a && b) ≡ true → (a ≡ true) × (b ≡ true)
-and-yes true b p = (refl, p)
-and-yes false b p = absurd (false≢true p)
 
 top-of : (p : Parent) → isTop p ≡ true → p ≡ top
 top-of top e = refl
@@ -79,7 +75,7 @@ paired cs [] [] p = tt
 paired cs [] (y ∷ ys) p = false≢true p
 paired cs (x ∷ xs) [] p = false≢true p
 paired cs (x ∷ xs) (y ∷ ys) p =
-    let q = and-yes (joined cs x y) (pairsJoined (joined cs) xs ys) p in (joined-root cs x y (q .0), paired cs xs ys (q .1))
+    let q = and-eq-true-iff (joined cs x y) (pairsJoined (joined cs) xs ys) .0 p in (joined-root cs x y (q .0), paired cs xs ys (q .1))
 
 pub kin : {ns : List Node} {cs : List Connection} {c : Connection} → Sound ns cs c → c .why ≡ Congruence →
     Paired cs (kidsOf ns (cur c)) (kidsOf ns (nxt c))
@@ -88,7 +84,7 @@ kin {ns} {cs} {c} s w =
     let xs = kidsOf ns (cur c) in
     let ys = kidsOf ns (nxt c) in
     let p : supported ns cs Congruence (cur c) (nxt c) ≡ true = rw w at (s .support) in
-    paired cs xs ys (and-yes (sameOp (opOf ns (cur c)) (opOf ns (nxt c))) (pairsJoined (joined cs) xs ys) p .1)
+    paired cs xs ys (and-eq-true-iff (sameOp (opOf ns (cur c)) (opOf ns (nxt c))) (pairsJoined (joined cs) xs ys) .0 p .1)
 
 -- as many on both sides
 pub paired-length : (cs : List Connection) (xs ys : List ℕ) → Paired cs xs ys → length xs ≡ length ys

@@ -1,7 +1,7 @@
 -- What judging leaves: tables that stand, and the table of parents that belongs to them.
 use Prim.Native.Nat.{ℕ, zero, suc, _+_, _*_, _-_, _/_, _≤_, _<_}
 use mathlib.Core.Path.{_≡_, refl, sym, ap, _∙_, subst₂}
-use mathlib.Core.Bool.{true, not, _&&_}
+use mathlib.Core.Bool.{true, not, _&&_, and-eq-true-iff}
 use mathlib.Core.List.{List, [], _∷_, _++_}
 use mathlib.Core.Option.{Option, none, some}
 use native.Mathlib.Omega.{arith}
@@ -22,7 +22,7 @@ use Rattle.model.specs.Connect.{misplaced, supported, addConnection}
 use Rattle.model.specs.Tables.{wordsFrom, nodeAt, nodeEntry, connectionEntry, entries, nodeTable, connectionTable}
 use Rattle.forest.specs.Hangs.{Accepted}
 use Rattle.forest.specs.Tables.{connectionIn, oldest, firstNodes, ageOf, agesOf, countIn, childrenIn, connectionsTo, nodesTo, Within, NodesStand, Stands}
-use Rattle.forest.proofs.Accept.{taken, and-yes, sound, accepted-forest}
+use Rattle.forest.proofs.Accept.{taken, sound, accepted-forest}
 use Rattle.forest.proofs.Climbs.{length-oldest, age-new, age-old}
 use Rattle.forest.proofs.Count.{connections-few}
 use Rattle.forest.proofs.Tables.{whole, entry-some, length-nodes}
@@ -156,7 +156,7 @@ pub below-at : (ws : List ℕ) (n at k : ℕ) → allBelow n (wordsFrom ws at k)
 unfolding allBelow wordsFrom
 below-at ws n at zero p i h = absurd (omega arith)
 below-at ws n at (suc k) p i h =
-    let q = and-yes (ltb (getD ws at 0) n) (allBelow n (wordsFrom ws (suc at) k)) p in
+    let q = and-eq-true-iff (ltb (getD ws at 0) n) (allBelow n (wordsFrom ws (suc at) k)) .0 p in
     elim (ℕ-discrete i 0) [
       | yes e ↦ rw (e, add-zero) (ltb-true _ _ (q .0))
       | no e ↦
@@ -188,7 +188,7 @@ node-entry : (ws : List ℕ) (i : ℕ) (x : Node) → nodeEntry ws i ≡ some x 
 unfolding nodeEntry
 node-entry ws i x p =
     let w = whole (leb (i * 10 + 10) (length ws) && leb (getD ws (i * 10 + 1) 0) childLimit) (some (nodeAt ws i)) p in
-    let b = and-yes (leb (i * 10 + 10) (length ws)) (leb (getD ws (i * 10 + 1) 0) childLimit) (w .0) in
+    let b = and-eq-true-iff (leb (i * 10 + 10) (length ws)) (leb (getD ws (i * 10 + 1) 0) childLimit) .0 (w .0) in
     let q = w .1 in
     record { room = leb-true _ _ (b .0); narrow = leb-true _ _ (b .1); is = cc }
 

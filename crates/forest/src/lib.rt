@@ -2,11 +2,13 @@
 // Tables are lent as words, a node 10 and a connection 5. A table of parents has a word for each node: the age of its
 // parent connection, and 1, or 0 where it has none.
 use model::CHILD_LIMIT;
+use model::CONNECTION_WORDS;
 use model::Connection;
 use model::Direction;
 use model::Judgement;
 use model::Justification;
 use model::NODE_LIMIT;
+use model::NODE_WORDS;
 use model::NodeNo;
 use model::OpNo;
 use model::RuleNo;
@@ -56,7 +58,7 @@ pub fn connection_at(conns: &[u16], age: usize) -> Connection
     requires { ⌜ age * 5 + 5 ≤ length (now conns) ⌝ }
     ensures { λ r. ⌜ r ≡ connectionIn (now (conns .entry)) age ⌝ }
 {
-    let base = age * 5;
+    let base = age * CONNECTION_WORDS;
     let current = NodeNo(word(conns, base, 0));
     let next = NodeNo(word(conns, base, 1));
     match word(conns, base, 2) {
@@ -94,7 +96,7 @@ pub fn next_of(parents: &[u16], conns: &[u16], count: usize, n: NodeNo) -> NodeN
     if age == 0 {
         n
     } else {
-        NodeNo(word(conns, (age - 1) * 5, 1))
+        NodeNo(word(conns, (age - 1) * CONNECTION_WORDS, 1))
     }
 }
 
@@ -159,7 +161,7 @@ pub fn operator_of(nodes: &[u16], n: NodeNo) -> OpNo
     requires { ⌜ n .0 * 10 + 10 ≤ length (now nodes) ⌝ }
     ensures { λ r. ⌜ r .0 ≡ getD (now (nodes .entry)) (n .0 * 10) 0 ⌝ }
 {
-    OpNo(nodes[wide(n.0) * 10])
+    OpNo(nodes[wide(n.0) * NODE_WORDS])
 }
 
 // How many children a node has.
@@ -167,7 +169,7 @@ pub fn count_of(nodes: &[u16], n: NodeNo) -> usize
     requires { ⌜ n .0 * 10 + 10 ≤ length (now nodes) ⌝ }
     ensures { λ r. ⌜ r ≡ countIn (now (nodes .entry)) (n .0) ⌝ }
 {
-    wide(word(nodes, wide(n.0) * 10, 1))
+    wide(word(nodes, wide(n.0) * NODE_WORDS, 1))
 }
 
 // A child of a node, from 0.
@@ -175,7 +177,7 @@ pub fn child_of(nodes: &[u16], n: NodeNo, i: usize) -> NodeNo
     requires { ⌜ (n .0 * 10 + 10 ≤ length (now nodes)) × (i < childLimit) ⌝ }
     ensures { λ r. ⌜ r .0 ≡ childIn (now (nodes .entry)) (n .0) i ⌝ }
 {
-    NodeNo(word(nodes, wide(n.0) * 10 + 2, i))
+    NodeNo(word(nodes, wide(n.0) * NODE_WORDS + 2, i))
 }
 
 // Whether connections join the children of two nodes, of which both have as many, pair by pair.
@@ -276,8 +278,8 @@ fn entry_whole(conns: &[u16], age: usize) -> bool
     requires { ⌜ age ≤ nodeLimit ⌝ }
     ensures { λ r. ⌜ r ≡ present (connectionEntry (now (conns .entry)) age) ⌝ }
 {
-    let base = age * 5;
-    if conns.len() < base + 5 {
+    let base = age * CONNECTION_WORDS;
+    if conns.len() < base + CONNECTION_WORDS {
         return false;
     }
     let rule = word(conns, base, 3);
@@ -334,7 +336,7 @@ pub fn judge_connections(nodes: &[u16], n: usize, conns: &[u16], parents: &mut [
 {
     clear(parents);
     let mut age: usize = 0;
-    while age * 5 < conns.len() {
+    while age * CONNECTION_WORDS < conns.len() {
         let judged = judge_entry(nodes, n, parents, conns, age);
         if let Judgement::Faulty(number) = judged {
             clear(parents);
@@ -351,10 +353,10 @@ fn children_below(nodes: &[u16], n: usize) -> bool
     requires { ⌜ (n ≤ nodeLimit) × (n * 10 + 10 ≤ length (now nodes)) × (countIn (now nodes) n ≤ childLimit) ⌝ }
     ensures { λ r. ⌜ r ≡ allBelow n (childrenIn (now (nodes .entry)) n) ⌝ }
 {
-    let count = wide(word(nodes, n * 10, 1));
+    let count = wide(word(nodes, n * NODE_WORDS, 1));
     let mut i: usize = 0;
     while i < count {
-        if n <= wide(word(nodes, n * 10 + 2, i)) {
+        if n <= wide(word(nodes, n * NODE_WORDS + 2, i)) {
             return false;
         }
         i += 1;
@@ -367,10 +369,10 @@ pub fn judge_node(nodes: &[u16], n: usize) -> Judgement
     requires { ⌜ n ≤ nodeLimit ⌝ }
     ensures { λ r. ⌜ r ≡ judgementOf (addNode (firstNodes n (now (nodes .entry))) (nodeEntry (now (nodes .entry)) n)) ⌝ }
 {
-    if nodes.len() < n * 10 + 10 {
+    if nodes.len() < n * NODE_WORDS + NODE_WORDS {
         return Judgement::Faulty(2);
     }
-    if CHILD_LIMIT < word(nodes, n * 10, 1) {
+    if CHILD_LIMIT < word(nodes, n * NODE_WORDS, 1) {
         return Judgement::Faulty(2);
     }
     if NODE_LIMIT <= n {
@@ -388,7 +390,7 @@ pub fn judge_nodes(nodes: &[u16]) -> Judgement
     ensures { λ r. ⌜ r ≡ judgementOf (nodeTable (now (nodes .entry))) ⌝ }
 {
     let mut n: usize = 0;
-    while n * 10 < nodes.len() {
+    while n * NODE_WORDS < nodes.len() {
         let judged = judge_node(nodes, n);
         if let Judgement::Faulty(number) = judged {
             return Judgement::Faulty(number);

@@ -17,29 +17,29 @@ use Rattle.model.specs.Rule.{Rule, orElse, listed, isListed, ruleOf, addRule}
 use Rattle.model.specs.Tables.{onlyIf, sideAt, ruleWords, ruleEntry, andAdd, entries}
 use Rattle.rule_table.specs.declared.Listed.{Listed}
 use Rattle.rule_table.specs.declared.Listed.the-variants.{At, Nowhere}
-use Rattle.rule_table.specs.Entries.{rulesIn, Accepted, placeIf, placeOf}
+use Rattle.rule_table.specs.Entries.{rulesIn, Accepted, listedIf, whereListed}
 use Rattle.rule_table.proofs.Patterns.{none-some}
 use Rattle.rule_table.proofs.Sides.{SideIs, side-is}
 use Rattle.rule_table.proofs.Parts.{ruleFrom}
 
 -- one turn of the search: the newest entry has the number, or the older ones decide
-pub place-here : (ws : List ℕ) (i x : ℕ) → 0 < i → x ≡ getD ws ((i - 1) * ruleWords) 0 → At (i - 1) ≡ placeOf ws i x
-unfolding placeOf
+pub place-here : (ws : List ℕ) (i x : ℕ) → 0 < i → x ≡ getD ws ((i - 1) * ruleWords) 0 → At (i - 1) ≡ whereListed ws i x
+unfolding whereListed
 place-here ws zero x h e = absurd (omega arith)
 place-here ws (suc i) x h e =
     let p : suc i - 1 ≡ i = omega arith in
     rw (p, eq-eqb x (getD ws (i * ruleWords) 0) (rw p at e))
 
 pub place-older : (ws : List ℕ) (i x : ℕ) → 0 < i → (x ≡ getD ws ((i - 1) * ruleWords) 0 → ⊥)
-    → placeOf ws (i - 1) x ≡ placeOf ws i x
-unfolding placeOf
+    → whereListed ws (i - 1) x ≡ whereListed ws i x
+unfolding whereListed
 place-older ws zero x h e = absurd (omega arith)
 place-older ws (suc i) x h e =
     let p : suc i - 1 ≡ i = omega arith in
     rw (p, ne-eqb x (getD ws (i * ruleWords) 0) (rw p at e))
 
-pub place-none : (ws : List ℕ) (i x : ℕ) → i ≡ 0 → Nowhere ≡ placeOf ws i x
-unfolding placeOf
+pub place-none : (ws : List ℕ) (i x : ℕ) → i ≡ 0 → Nowhere ≡ whereListed ws i x
+unfolding whereListed
 place-none ws i x e = rw e
 
 -- entry i of a table is the rule r: it stands there whole, with its number, and its slots spell its sides
@@ -149,33 +149,33 @@ ruleAt ws (At i) = ruleEntry ws i
 ruleAt ws Nowhere = none
 
 listed-newest : (ws : List ℕ) (n : ℕ) (r : Rule) (o : Option Rule) (p : Listed) (b : Bool) → ruleEntry ws n ≡ some r
-    → o ≡ ruleAt ws p → orElse b r o ≡ ruleAt ws (placeIf b n p)
+    → o ≡ ruleAt ws p → orElse b r o ≡ ruleAt ws (listedIf b n p)
 listed-newest ws n r o p true e q = sym e
 listed-newest ws n r o p false e q = q
 
 -- the rule of a number is the one of the entry that lists it
 pub listed-place : (ws : List ℕ) (x n : ℕ) (rs : List Rule) → rulesIn ws n ≡ good rs
-    → listed rs x ≡ ruleAt ws (placeOf ws n x)
-unfolding listed placeOf
+    → listed rs x ≡ ruleAt ws (whereListed ws n x)
+unfolding listed whereListed
 listed-place ws x zero rs e = ap (λ (l : List Rule). listed l x) (sym (none-yet ws rs e))
 listed-place ws x (suc n) rs e =
     let w = newest ws n rs e in
     let i = entry-is ws n (w .add .rule) (w .add .entry) in
     ap (λ (l : List Rule). listed l x) (sym (w .add .rules))
-    ∙ rw (i .number) (listed-newest ws n (w .add .rule) _ (placeOf ws n x) (eqb x (getD ws (n * ruleWords) 0)) (w .add .entry)
+    ∙ rw (i .number) (listed-newest ws n (w .add .rule) _ (whereListed ws n x) (eqb x (getD ws (n * ruleWords) 0)) (w .add .entry)
     (listed-place ws x n (w .older) (w .before)))
 
 -- an entry that lists a number has it, and where none does none has it
 module _ (ws : List ℕ) (x n : ℕ) where
   at-newest : (i : ℕ) (p : Listed) (b : Bool) → eqb x (getD ws (n * ruleWords) 0) ≡ b
       → (p ≡ At i → (i < n) × (getD ws (i * ruleWords) 0 ≡ x))
-      → placeIf b n p ≡ At i → (i < suc n) × (getD ws (i * ruleWords) 0 ≡ x)
+      → listedIf b n p ≡ At i → (i < suc n) × (getD ws (i * ruleWords) 0 ≡ x)
   at-newest i p true e h q = let k : n ≡ i = cc in rw (← k) (omega arith, sym (eqb-true _ _ e))
   at-newest i p false e h q = let r = h q in (omega arith, r .1)
 
   not-newest : (p : Listed) (b : Bool) → eqb x (getD ws (n * ruleWords) 0) ≡ b
       → (p ≡ Nowhere → (i : ℕ) → i < n → getD ws (i * ruleWords) 0 ≡ x → ⊥)
-      → placeIf b n p ≡ Nowhere → (i : ℕ) → i < suc n → getD ws (i * ruleWords) 0 ≡ x → ⊥
+      → listedIf b n p ≡ Nowhere → (i : ℕ) → i < suc n → getD ws (i * ruleWords) 0 ≡ x → ⊥
   not-newest p true e h q i k d = let z : _≡_ {A = ℕ} 0 1 = cc in omega arith
   not-newest p false e h q i k d =
       elim (ℕ-discrete i n) [
@@ -183,15 +183,15 @@ module _ (ws : List ℕ) (x n : ℕ) where
         | no j ↦ h q i (omega arith) d
       ]
 
-pub place-at : (ws : List ℕ) (x n i : ℕ) → placeOf ws n x ≡ At i → (i < n) × (getD ws (i * ruleWords) 0 ≡ x)
-unfolding placeOf
+pub place-at : (ws : List ℕ) (x n i : ℕ) → whereListed ws n x ≡ At i → (i < n) × (getD ws (i * ruleWords) 0 ≡ x)
+unfolding whereListed
 place-at ws x zero i e = let z : _≡_ {A = ℕ} 0 1 = cc in absurd (omega arith)
-place-at ws x (suc n) i e = at-newest ws x n i (placeOf ws n x) _ refl (place-at ws x n i) e
+place-at ws x (suc n) i e = at-newest ws x n i (whereListed ws n x) _ refl (place-at ws x n i) e
 
-pub place-nowhere : (ws : List ℕ) (x n : ℕ) → placeOf ws n x ≡ Nowhere → (i : ℕ) → i < n → getD ws (i * ruleWords) 0 ≡ x → ⊥
-unfolding placeOf
+pub place-nowhere : (ws : List ℕ) (x n : ℕ) → whereListed ws n x ≡ Nowhere → (i : ℕ) → i < n → getD ws (i * ruleWords) 0 ≡ x → ⊥
+unfolding whereListed
 place-nowhere ws x zero e i h d = omega arith
-place-nowhere ws x (suc n) e i h d = not-newest ws x n (placeOf ws n x) _ refl (place-nowhere ws x n) e i h d
+place-nowhere ws x (suc n) e i h d = not-newest ws x n (whereListed ws n x) _ refl (place-nowhere ws x n) e i h d
 
 -- so a number is listed where its entry is found, and the rule of that entry is the rule listed
 pub record Found (ws : List ℕ) (rs : List Rule) (x i : ℕ) : Type 0 where
@@ -199,18 +199,18 @@ pub record Found (ws : List ℕ) (rs : List Rule) (x i : ℕ) : Type 0 where
   pub listed : listed rs x ≡ some rule
   pub is : EntryIs ws i rule
 
-pub rule-found : (ws : List ℕ) (n : ℕ) (rs : List Rule) (x i : ℕ) → rulesIn ws n ≡ good rs → placeOf ws n x ≡ At i
+pub rule-found : (ws : List ℕ) (n : ℕ) (rs : List Rule) (x i : ℕ) → rulesIn ws n ≡ good rs → whereListed ws n x ≡ At i
     → Found ws rs x i
 rule-found ws n rs x i e p =
     let w = entry-at ws n rs e i (place-at ws x n i p .0) in
     record { rule = w .rule; listed = listed-place ws x n rs e ∙ ap (ruleAt ws) p ∙ w .said; is = w .is }
 
-pub rule-nowhere : (ws : List ℕ) (n : ℕ) (rs : List Rule) (x : ℕ) → rulesIn ws n ≡ good rs → placeOf ws n x ≡ Nowhere
+pub rule-nowhere : (ws : List ℕ) (n : ℕ) (rs : List Rule) (x : ℕ) → rulesIn ws n ≡ good rs → whereListed ws n x ≡ Nowhere
     → listed rs x ≡ none
 rule-nowhere ws n rs x e p = listed-place ws x n rs e ∙ ap (ruleAt ws) p
 
 -- "each listed once": where an older entry has the number, the newest has another
-newest-apart : (ws : List ℕ) (n : ℕ) (rs : List Rule) → Newest ws n rs → (x i : ℕ) → placeOf ws n x ≡ At i
+newest-apart : (ws : List ℕ) (n : ℕ) (rs : List Rule) → Newest ws n rs → (x i : ℕ) → whereListed ws n x ≡ At i
     → x ≡ getD ws (n * ruleWords) 0 → ⊥
 newest-apart ws n rs w x i p q =
     let again = ap isListed (rule-found ws n (w .older) x i (w .before) p .listed) in
@@ -220,8 +220,8 @@ newest-apart ws n rs w x i p q =
 
 -- so an accepted entry with the number is the one that is found
 pub place-only : (ws : List ℕ) (x n : ℕ) (rs : List Rule) → rulesIn ws n ≡ good rs → (i : ℕ) → i < n
-    → getD ws (i * ruleWords) 0 ≡ x → placeOf ws n x ≡ At i
-unfolding placeOf
+    → getD ws (i * ruleWords) 0 ≡ x → whereListed ws n x ≡ At i
+unfolding whereListed
 place-only ws x zero rs e i h d = absurd (omega arith)
 place-only ws x (suc n) rs e i h d =
     elim (ℕ-discrete i n) [

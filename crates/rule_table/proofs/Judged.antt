@@ -18,7 +18,7 @@ use Rattle.model.specs.Rule.{Rule, listed, isListed, ruleOf, addRule}
 use Rattle.model.specs.Tables.{sideAt, ruleWords}
 use Rattle.rule_table.specs.declared.Listed.the-variants.{At, Nowhere}
 use Rattle.rule_table.specs.Slots.{isSide, Standing, knownFrom}
-use Rattle.rule_table.specs.Entries.{Accepted, entryOf, withEntry, placeOf}
+use Rattle.rule_table.specs.Entries.{Accepted, entryOf, withEntry, whereListed}
 use Rattle.rule_table.proofs.Sides.{side-is, known-bound}
 use Rattle.rule_table.proofs.Parts.{entry-alone}
 use Rattle.rule_table.proofs.Entries.{rules-length, rule-found, rule-nowhere}
@@ -120,12 +120,12 @@ module _ (ws : List ℕ) (n : ℕ) (a : Accepted ws n) (es : List ℕ) where
       room : leb ruleLimit (length (a .rules)) ≡ false
       room = lt-leb ruleLimit (length (a .rules)) (omega (arith, rules-length ws n (a .rules) (a .are)))
 
-      pub judge-listed : (i : ℕ) → placeOf ws n (getD es 0 0) ≡ At i → Answers ws n es (Faulty 5)
+      pub judge-listed : (i : ℕ) → whereListed ws n (getD es 0 0) ≡ At i → Answers ws n es (Faulty 5)
       judge-listed i p =
           let f = rule-found ws n (a .rules) (getD es 0 0) i (a .are) p in
           tried false true room (rw (f .listed))
 
-      module _ (p : placeOf ws n (getD es 0 0) ≡ Nowhere) (on : List Bool) (st : Standing es 3 (getD es 1 0) on) where
+      module _ (p : whereListed ws n (getD es 0 0) ≡ Nowhere) (on : List Bool) (st : Standing es 3 (getD es 1 0) on) where
         unlisted : isListed (listed (a .rules) (getD es 0 0)) ≡ false
         unlisted = rw (rule-nowhere ws n (a .rules) (getD es 0 0) (a .are) p)
 

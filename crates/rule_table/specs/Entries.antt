@@ -31,10 +31,10 @@ abbrev pub withEntry : List ℕ → ℕ → Option Rule → Judged (List Rule)
 withEntry ws n e = andAdd addRule (ruleEntry ws) [] (rulesIn ws n) e
 
 -- "each listed once": the last entry of a number is the one
-abbrev pub placeIf : Bool → ℕ → Listed → Listed
-placeIf true i r = At i
-placeIf false i r = r
+abbrev pub listedIf : Bool → ℕ → Listed → Listed
+listedIf true i r = At i
+listedIf false i r = r
 
-unfoldable pub placeOf : List ℕ → ℕ → ℕ → Listed
-placeOf ws zero x = Nowhere
-placeOf ws (suc i) x = placeIf (eqb x (getD ws (i * ruleWords) 0)) i (placeOf ws i x)
+unfoldable pub whereListed : List ℕ → ℕ → ℕ → Listed
+whereListed ws zero x = Nowhere
+whereListed ws (suc i) x = listedIf (eqb x (getD ws (i * ruleWords) 0)) i (whereListed ws i x)

@@ -6,6 +6,7 @@ use model::Judgement;
 use model::RULE_LIMIT;
 use model::RULE_WORDS;
 use model::RuleNo;
+use model::SIDE_WORDS;
 use model::VARIABLE_LIMIT;
 ghost use mathlib.Core.Path.{_≡_};
 ghost use Prim.Native.Nat.{_+_, _*_, _≤_, min};
@@ -14,15 +15,15 @@ ghost use Rattle.model.specs.Limits.{itemLimit};
 ghost use Rattle.model.specs.Judged.{judgementOf};
 ghost use Rattle.model.specs.Tables.{ruleWords, sideAt, ruleTable};
 ghost use Rattle.rule_table.specs.Slots.{isSide, itemAt, slotOf, Standing, knownFrom};
-ghost use Rattle.rule_table.specs.Entries.{Accepted, entryOf, withEntry, placeOf};
+ghost use Rattle.rule_table.specs.Entries.{Accepted, entryOf, withEntry, whereListed};
 
 // A child count is a word in a node, and a count of patterns here.
 const CHILDREN: usize = CHILD_LIMIT as usize;
 
 // Where the slots of an entry's left and of its right side start.
-const LEFT: usize = 3;
+pub const LEFT: usize = 3;
 
-const RIGHT: usize = 195;
+const RIGHT: usize = LEFT + SIDE_WORDS;
 
 // Where a rule number is listed.
 pub enum Listed {
@@ -40,7 +41,7 @@ enum Slot {
 // Which entry lists a number: one pass over the numbers, the newest first.
 pub fn find_rule(rules: &[u16], count: usize, number: RuleNo) -> Listed
     requires { ⌜ count * ruleWords ≤ length (now rules) ⌝ }
-    ensures { λ r. ⌜ r ≡ placeOf (now (rules .entry)) count (number .0) ⌝ }
+    ensures { λ r. ⌜ r ≡ whereListed (now (rules .entry)) count (number .0) ⌝ }
 {
     let mut i = count;
     while 0 < i {

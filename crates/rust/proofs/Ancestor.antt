@@ -1,7 +1,7 @@
 -- The Rust's common ancestor of two joined nodes is where the two climbs meet.
 use Prim.Native.Nat.{ℕ, zero, suc, _+_, _<_}
 use mathlib.Core.Path.{_≡_, refl, sym, ap, _∙_}
-use mathlib.Core.Bool.{Bool, true, false, cond, _&&_}
+use mathlib.Core.Bool.{Bool, true, false, cond, _&&_, and-eq-true-iff}
 use mathlib.Core.List.{List, []}
 use mathlib.Core.Option.{Option, none, some}
 use native.Mathlib.Omega.{arith}
@@ -11,7 +11,6 @@ use lib.Dec.{eqb}
 use Rattle.model.specs.declared.Connection.{Connection}
 use Rattle.model.specs.Forest.{root}
 use Rattle.forest.specs.Hangs.{nextOf, depth, Forest}
-use Rattle.forest.proofs.Accept.{and-yes}
 use Rattle.forest.proofs.Places.{high, low, place}
 use Rattle.forest.proofs.Ways.{climbBy, Lowest, root-climb}
 use Rattle.rust.specs.Paths.{contains, commonAncestor}
@@ -94,7 +93,7 @@ module _
       (Fresh (suc k) → Round d (suc k)) → (b : Bool) → stuck k ≡ b → Round (suc d) k
   unfolding commonAncestor
   by-none d k w p q next true e =
-      let (x, y) = and-yes _ _ e in
+      let (x, y) = and-eq-true-iff _ _ .0 e in
       absurd (goes-on k (not-passed (suc k) cs l (climbBy cs k r) q) (eqb-true _ _ x) (eqb-true _ _ y))
   by-none d k w p q next false e =
       rw (p, q, e, climb-next k cs l, climb-next k cs r)

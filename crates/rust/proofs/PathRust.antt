@@ -19,11 +19,11 @@ use Rattle.rust.proofs.Ancestor.{ancestor, no-ancestor}
 abbrev connOf : List Connection → (ℕ → ℕ → List Connection) → Connection → Bool → List Connection
 connOf _ _ c u = c ∷ []
 
-abbrev climbed : List Connection → ℕ → ℕ → List Connection
-climbed cs i n = ups [] _++_ connOf cs i n
+abbrev connectionsUp : List Connection → ℕ → ℕ → List Connection
+connectionsUp cs i n = ups [] _++_ connOf cs i n
 
 connections : (i rounds : ℕ) (cs : List Connection) (n : ℕ) → Forest cs → i ≤ depth cs n → i < rounds →
-    getConnections rounds cs n (climbBy cs i n) ≡ some (climbed cs i n)
+    getConnections rounds cs n (climbBy cs i n) ≡ some (connectionsUp cs i n)
 unfolding getConnections climbBy ups
 connections i zero cs n f h k = absurd (omega arith)
 connections zero (suc rounds) cs n f h k = rw (eq-eqb n n refl) refl
@@ -36,12 +36,12 @@ connections (suc i) (suc rounds) cs n f h k =
           omega (arith, depth-climb i cs (nextOf cs n) f (omega arith)) in
           rw (ne-eqb _ _ e, a) (ap (λ (x : ℕ). push c (getConnections rounds cs x (climbBy cs i (nextOf cs n)))) (sym b)
           ∙ ap (push c) (connections i rounds cs (nextOf cs n) f (omega arith) (omega arith))
-          ∙ ap (λ (x : List Connection). some (x ++ climbed cs i (nextOf cs n))) (sym (hop-low [] _++_ connOf cs n true a)))
+          ∙ ap (λ (x : List Connection). some (x ++ connectionsUp cs i (nextOf cs n))) (sym (hop-low [] _++_ connOf cs n true a)))
     ]
 
 -- walked up they are the way up, and walked down, the last first, the way down
 walked-up : (i : ℕ) (cs : List Connection) (n : ℕ) → Forest cs → i ≤ depth cs n →
-    ups [] _++_ hopOf cs i n ≡ map (λ c. record { conn = c; up = true }) (climbed cs i n)
+    ups [] _++_ hopOf cs i n ≡ map (λ c. record { conn = c; up = true }) (connectionsUp cs i n)
 unfolding ups
 walked-up zero cs n f h = refl
 walked-up (suc i) cs n f h =
@@ -53,7 +53,7 @@ walked-up (suc i) cs n f h =
     ]
 
 walked-down : (i : ℕ) (cs : List Connection) (n : ℕ) → Forest cs → i ≤ depth cs n →
-    downs [] _++_ hopOf cs i n ≡ map (λ c. record { conn = c; up = false }) (reverse (climbed cs i n))
+    downs [] _++_ hopOf cs i n ≡ map (λ c. record { conn = c; up = false }) (reverse (connectionsUp cs i n))
 unfolding ups downs
 walked-down zero cs n f h = refl
 walked-down (suc i) cs n f h =
@@ -62,8 +62,8 @@ walked-down (suc i) cs n f h =
       | low c o a b t ↦
           rw (hop-low [] _++_ hopOf cs n false a, hop-low [] _++_ connOf cs n true a)
           (ap (λ (x : List Hop). x ++ (record { conn = c; up = false } ∷ [])) (walked-down i cs (nextOf cs n) f (omega arith))
-          ∙ sym (map-append (λ c. record { conn = c; up = false }) (reverse (climbed cs i (nextOf cs n))) (c ∷ []))
-          ∙ ap (map (λ c. record { conn = c; up = false })) (sym (reverse-cons c (climbed cs i (nextOf cs n)))))
+          ∙ sym (map-append (λ c. record { conn = c; up = false }) (reverse (connectionsUp cs i (nextOf cs n))) (c ∷ []))
+          ∙ ap (map (λ c. record { conn = c; up = false })) (sym (reverse-cons c (connectionsUp cs i (nextOf cs n)))))
     ]
 
 -- THE RUST'S PATH, in as many rounds as the two nodes are deep and one, is document 01's

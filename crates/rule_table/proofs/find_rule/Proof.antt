@@ -6,14 +6,14 @@ use Prim.Native.Nat.{_*_, _≤_}
 use mathlib.Core.Path.{_≡_, refl, _∙_}
 use lib.ListN.{length}
 use Rattle.model.specs.Tables.{ruleWords}
-use Rattle.rule_table.specs.Entries.{placeOf}
+use Rattle.rule_table.specs.Entries.{whereListed}
 use Rattle.rule_table.proofs.Entries.{place-here, place-older, place-none}
 use Rattle.rule_table.proofs.find_rule.Statement.{statement}
 use Rattle.rule_table.proofs.find_rule.Tie as tie
 
 abbrev Inv-loop : tie.InvT-loop
 Inv-loop rules count number i₀ i =
-    (i * ruleWords ≤ length rules) × (placeOf rules i (number .0) ≡ placeOf rules count (number .0))
+    (i * ruleWords ≤ length rules) × (whereListed rules i (number .0) ≡ whereListed rules count (number .0))
 
 abbrev μ-loop : tie.MeasureT-loop
 μ-loop rules count number i₀ i = i
