@@ -10,7 +10,7 @@ use Rattle.model.specs.Rule.{Rule, listed, isListed}
 use Rattle.model.specs.Step.{ByRule, Allowed, Step, fitsRule, allowed, step, isMark, someMark, nested, namesUnlisted, unlisted}
 use Rattle.model.specs.Pattern.{Patterns, Instance, fits}
 use Rattle.terms.specs.Place.{Decides}
-use Rattle.rules.proofs.Matching.{fits-decides}
+use Rattle.matching.proofs.Matching.{fits-decides}
 
 and : {a b : Bool} → a ≡ true → b ≡ true → (a && b) ≡ true
 and p q = cc

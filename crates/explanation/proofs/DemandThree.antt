@@ -10,9 +10,9 @@ use Rattle.model.specs.Verdict.{verdict}
 use Rattle.model.specs.Flat.{flatProof}
 use Rattle.model.specs.Premise.{Premise}
 use Rattle.model.specs.Query.{Tables, answer}
-use Rattle.writer.specs.Accepted.{AcceptedTables}
-use Rattle.writer.specs.Delivered.{Delivered}
-use Rattle.writer.proofs.Delivered.{delivered}
+use Rattle.flat.specs.Accepted.{AcceptedTables}
+use Rattle.flat.specs.Delivered.{Delivered}
+use Rattle.flat.proofs.Delivered.{delivered}
 use Rattle.checker.proofs.DemandTwo.{demand-2}
 
 pub record Demanded (t : Tables) (area l r d w : ℕ) : Type 0 where

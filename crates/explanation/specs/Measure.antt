@@ -10,7 +10,9 @@ use Rattle.model.specs.Limits.{nodeLimit, distanceLimit}
 use Rattle.model.specs.Judged.{Judged, good, bad}
 use Rattle.model.specs.Forest.{joined, dist}
 use Rattle.model.specs.Query.{Tables}
-use Rattle.forest.specs.Tables.{firstNodes, oldest, agesOf}
+use Rattle.entries.specs.Nodes.{firstNodes}
+use Rattle.entries.specs.Connections.{oldest}
+use Rattle.forest.specs.Parents.{agesOf}
 use Rattle.explanation.specs.declared.Measured.{Measured}
 use Rattle.explanation.specs.declared.Measured.the-variants.{Distance, Unmeasured}
 

@@ -6,7 +6,7 @@ use native.Mathlib.Omega.{arith}
 use Rattle.model.specs.Term.{Mark, unmarked, forward, backward, Terms, noTerms, tree, count, join, strip}
 use Rattle.model.specs.Step.{someMark, isMark}
 use Rattle.terms.proofs.Rows.{join-assoc}
-use Rattle.writer.specs.Ends.{first, lastOr, last}
+use Rattle.flat.specs.Ends.{first, lastOr, last}
 use Rattle.rust.specs.Flatten.{combineMark, combine, front, extend}
 
 combine-mark : (m : Mark) → combineMark unmarked m ≡ m

@@ -13,7 +13,7 @@ use Rattle.model.specs.Step.{someMark, isMark}
 use Rattle.model.specs.Node.{Node, opOf, kidsOf, termOf}
 use Rattle.model.specs.Forest.{cur, nxt, Hop}
 use Rattle.model.specs.Flat.{markFor, markedTerm, within}
-use Rattle.writer.specs.Ends.{first, last}
+use Rattle.flat.specs.Ends.{first, last}
 use Rattle.rust.specs.Paths.{rustPath}
 
 -- fn combine_rewrites: the marks of another term put on this one, children paired to the end of the shorter list

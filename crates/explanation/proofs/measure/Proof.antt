@@ -10,8 +10,9 @@ use mathlib.Core.Path.{_≡_, sym, ap, subst, _∙_}
 use lib.ListN.{length}
 use Rattle.model.specs.Forest.{root, joined, dist}
 use Rattle.model.specs.Query.{Tables}
-use Rattle.forest.specs.Tables.{firstNodes, oldest}
-use Rattle.forest.proofs.Tables.{length-nodes}
+use Rattle.entries.specs.Nodes.{firstNodes}
+use Rattle.entries.specs.Connections.{oldest}
+use Rattle.entries.proofs.Nodes.{length-nodes}
 use Rattle.explanation.specs.declared.Measured.the-variants.{Distance}
 use Rattle.explanation.proofs.Measures.{no-left, no-right, apart, long, near}
 use Rattle.explanation.proofs.measure.Statement.{statement}
