@@ -7,7 +7,6 @@ use mathlib.Core.List.{List}
 use native.Mathlib.Omega.{arith}
 use Rattle.model.specs.declared.Connection.{Connection}
 use Rattle.model.specs.declared.Direction.{Direction}
-use Rattle.model.specs.declared.Direction.the-variants.{Forward, Backward}
 use Rattle.model.specs.declared.Justification.{Justification}
 use Rattle.model.specs.declared.Justification.the-variants.{Rule as byRule, Congruence}
 use Rattle.model.specs.Term.{unmarked, Terms, noTerms, tree, count, join, one, strip, Narrow, size}
@@ -22,10 +21,7 @@ use Rattle.flat.proofs.Runs.{Known, runs-count, runs-size, runs-one-mar
 use Rattle.flat.proofs.Twins.{Twins}
 
 marked : (n : ℕ) (d : Direction) (up : Bool) → markCount (markFor n d up) ≡ 1
-marked n Forward true = refl
-marked n Forward false = refl
-marked n Backward true = refl
-marked n Backward false = refl
+marked n d up = refl
 
 module _ (ns : List Node) (cs : List Connection) (proof : ℕ → ℕ → Terms) where
   -- a congruence stands on its support

@@ -2,7 +2,7 @@
 use Prim.Native.Nat.{_+_}
 use mathlib.Core.Path.{_≡_, refl, ap₂}
 use native.Mathlib.Omega.{arith}
-use Rattle.model.specs.Term.{unmarked, forward, backward, Terms, noTerms, tree, count, join, strip, size}
+use Rattle.model.specs.Term.{unmarked, marked, Terms, noTerms, tree, count, join, strip, size}
 use Rattle.flat.specs.Marks.{marks, OneMarkEach}
 
 pub count-none : (f : Terms) → count f ≡ 0 → f ≡ noTerms
@@ -25,8 +25,7 @@ pub unmarked-strip : (f : Terms) → marks f ≡ 0 → strip f ≡ f
 unfolding marks strip
 unmarked-strip noTerms h = refl
 unmarked-strip (tree o unmarked k s) h = ap₂ (tree o unmarked) (unmarked-strip k (omega arith)) (unmarked-strip s (omega arith))
-unmarked-strip (tree o (forward n) k s) h = absurd (omega arith)
-unmarked-strip (tree o (backward n) k s) h = absurd (omega arith)
+unmarked-strip (tree o (marked d n) k s) h = absurd (omega arith)
 
 pub one-mark-join : (f g : Terms) → OneMarkEach f → OneMarkEach g → OneMarkEach (join f g)
 unfolding OneMarkEach join

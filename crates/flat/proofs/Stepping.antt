@@ -4,9 +4,11 @@ use Prim.Native.Nat.{ℕ}
 use mathlib.Core.Path.{_≡_, refl, sym, _∙_}
 use mathlib.Core.List.{List}
 use native.Mathlib.Omega.{arith}
-use Rattle.model.specs.Term.{Mark, unmarked, forward, backward, Terms, noTerms, tree, join, strip}
+use Rattle.model.specs.declared.Direction.{Direction}
+use Rattle.model.specs.declared.Direction.the-variants.{Forward, Backward}
+use Rattle.model.specs.Term.{Mark, unmarked, marked, Terms, noTerms, tree, join, strip}
 use Rattle.model.specs.Rule.{Rule}
-use Rattle.model.specs.Step.{ByRule, Step}
+use Rattle.model.specs.Step.{ByRule, Allowed, Step}
 use Rattle.model.specs.Verdict.{Later, Chain}
 use Rattle.model.specs.Flat.{within}
 use Rattle.flat.specs.Marks.{marks, OneMarkEach}
@@ -14,13 +16,18 @@ use Rattle.flat.specs.Ends.{lastOr}
 use Rattle.flat.proofs.Marked.{well-marked}
 
 module _ (rs : List Rule) where
-  pub by-rule-alike : (n : ℕ) (s s′ t t′ : Terms) → strip s ≡ strip s′ → strip t ≡ strip t′ → ByRule rs n s t → ByRule rs n s′ t′
+  by-rule-alike : (n : ℕ) (s s′ t t′ : Terms) → strip s ≡ strip s′ → strip t ≡ strip t′ → ByRule rs n s t → ByRule rs n s′ t′
   by-rule-alike n s s′ t t′ p q r =
       record {
         rule = r .rule;
         isIn = r .isIn;
         fit = record { σ = r .fit .σ; left = sym p ∙ r .fit .left; right = sym q ∙ r .fit .right };
       }
+
+  pub allowed-alike : (d : Direction) (n : ℕ) (s s′ t t′ : Terms) → strip s ≡ strip s′ → strip t ≡ strip t′ → Allowed rs (marked d n) s t →
+      Allowed rs (marked d n) s′ t′
+  allowed-alike Forward n s s′ t t′ p q r = by-rule-alike n s s′ t t′ p q r
+  allowed-alike Backward n s s′ t t′ p q r = by-rule-alike n t t′ s s′ q p r
 
   -- "the earlier one's marks ignored"
   pub step-alike : (s s′ t : Terms) → strip s ≡ strip s′ → Step rs s t → Step rs s′ t
@@ -34,21 +41,16 @@ module _ (rs : List Rule) where
       let ek : strip k ≡ strip k′ = cc in
       let es : strip s ≡ strip s′ = cc in
       (sym eo ∙ h .0, step-alike k k′ l ek (h .1), step-alike s s′ t es (h .2))
-  step-alike (tree o m k s) (tree o′ m′ k′ s′) (tree q (forward n) l t) p h =
+  step-alike (tree o m k s) (tree o′ m′ k′ s′) (tree q (marked d n) l t) p h =
       let e : tree o unmarked (strip k) noTerms ≡ tree o′ unmarked (strip k′) noTerms = cc in
       let es : strip s ≡ strip s′ = cc in
-      (by-rule-alike n _ _ _ _ e refl (h .0), step-alike s s′ t es (h .1))
-  step-alike (tree o m k s) (tree o′ m′ k′ s′) (tree q (backward n) l t) p h =
-      let e : tree o unmarked (strip k) noTerms ≡ tree o′ unmarked (strip k′) noTerms = cc in
-      let es : strip s ≡ strip s′ = cc in
-      (by-rule-alike n _ _ _ _ refl e (h .0), step-alike s s′ t es (h .1))
+      (allowed-alike d n _ _ _ _ e refl (h .0), step-alike s s′ t es (h .1))
 
   step-self : (f : Terms) → marks f ≡ 0 → Step rs f f
   unfolding Step marks
   step-self noTerms h = tt
   step-self (tree o unmarked k s) h = (refl, step-self k (omega arith), step-self s (omega arith))
-  step-self (tree o (forward n) k s) h = absurd (omega arith)
-  step-self (tree o (backward n) k s) h = absurd (omega arith)
+  step-self (tree o (marked d n) k s) h = absurd (omega arith)
 
   step-join : (f f′ g g′ : Terms) → Step rs f f′ → Step rs g g′ → Step rs (join f g) (join f′ g′)
   unfolding Step join
@@ -56,8 +58,7 @@ module _ (rs : List Rule) where
   step-join noTerms (tree o m k s) g g′ h i = absurd h
   step-join (tree o m k s) noTerms g g′ h i = absurd h
   step-join (tree o m k s) (tree o′ unmarked k′ s′) g g′ h i = (h .0, h .1, step-join s s′ g g′ (h .2) i)
-  step-join (tree o m k s) (tree o′ (forward n) k′ s′) g g′ h i = (h .0, step-join s s′ g g′ (h .1) i)
-  step-join (tree o m k s) (tree o′ (backward n) k′ s′) g g′ h i = (h .0, step-join s s′ g g′ (h .1) i)
+  step-join (tree o m k s) (tree o′ (marked d n) k′ s′) g g′ h i = (h .0, step-join s s′ g g′ (h .1) i)
 
   -- each term of a row steps from the one before, the first from s
   unfoldable pub Stepping : Terms → Terms → Type 0

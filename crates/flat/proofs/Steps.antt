@@ -10,13 +10,13 @@ use Rattle.model.specs.declared.Direction.the-variants.{Forward, Backward}
 use Rattle.model.specs.declared.Justification.{Justification}
 use Rattle.model.specs.declared.Justification.the-variants.{Rule as byRule, Congruence}
 use Rattle.model.specs.declared.RuleNo.{RuleNo}
-use Rattle.model.specs.Term.{Mark, unmarked, forward, backward, Terms, noTerms, tree, join, one, strip}
+use Rattle.model.specs.Term.{Mark, unmarked, marked, Terms, noTerms, tree, join, one, strip}
 use Rattle.model.specs.Rule.{Rule}
-use Rattle.model.specs.Step.{Step}
+use Rattle.model.specs.Step.{Allowed, Step}
 use Rattle.model.specs.Node.{Node, opOf, kidsOf, row, termOf}
 use Rattle.model.specs.Forest.{cur, nxt}
 use Rattle.model.specs.Premise.{InstanceBy, Premise}
-use Rattle.model.specs.Flat.{markFor, markedTerm, within, runs, appended, laterStep, later}
+use Rattle.model.specs.Flat.{turned, markFor, markedTerm, within, runs, appended, laterStep, later}
 use Rattle.paths.specs.Hangs.{Accepted, Paired}
 use Rattle.paths.proofs.Accept.{accepted-loose}
 use Rattle.flat.specs.Marks.{marks}
@@ -28,7 +28,7 @@ use Rattle.flat.proofs.Runs.{Known, Like, after-run, held-unmarked}
 use Rattle.flat.proofs.Twins.{Twins, twins, twins-back}
 use Rattle.flat.proofs.Appended.{appended-arrive}
 use Rattle.flat.proofs.Walked.{walked}
-use Rattle.flat.proofs.Stepping.{by-rule-alike, Stepping, stepping-alike, stepping-join, stepping-within}
+use Rattle.flat.proofs.Stepping.{allowed-alike, Stepping, stepping-alike, stepping-join, stepping-within}
 
 -- a rule connection's two terms are an instance of its rule: of the connection from a to b walked up, or from b to a walked down
 abbrev AlongRule : List Rule → List Node → Justification → Bool → ℕ → ℕ → Type 0
@@ -41,13 +41,17 @@ module _ (rs : List Rule) (ns : List Node) where
   unfolding strip
   marked-alike m b = ap (λ o. tree o unmarked (strip (termOf ns b .kids)) noTerms) (term-op ns b)
 
+  -- walked down, the direction is turned and the two ends are exchanged: the same instance
+  turned-way : (n : ℕ) (d : Direction) (s t : Terms) → Allowed rs (marked d n) s t → Allowed rs (marked (turned d) n) t s
+  turned-way n Forward s t i = i
+  turned-way n Backward s t i = i
+
   marked-step : (n : RuleNo) (d : Direction) (up : Bool) (a b : ℕ) → AlongRule rs ns (byRule n d) up a b →
       Step rs (one (termOf ns a)) (markedTerm ns (markFor (n .0) d up) b)
   unfolding Step
-  marked-step n Forward true a b i = (by-rule-alike rs (n .0) _ _ _ _ refl (marked-alike (forward (n .0)) b) i, tt)
-  marked-step n Forward false a b i = (by-rule-alike rs (n .0) _ _ _ _ (marked-alike (backward (n .0)) b) refl i, tt)
-  marked-step n Backward true a b i = (by-rule-alike rs (n .0) _ _ _ _ (marked-alike (backward (n .0)) b) refl i, tt)
-  marked-step n Backward false a b i = (by-rule-alike rs (n .0) _ _ _ _ refl (marked-alike (forward (n .0)) b) i, tt)
+  marked-step n d true a b i = (allowed-alike rs d (n .0) _ _ _ _ refl (marked-alike (marked d (n .0)) b) i, tt)
+  marked-step n d false a b i =
+      (allowed-alike rs (turned d) (n .0) _ _ _ _ refl (marked-alike (marked (turned d) (n .0)) b) (turned-way (n .0) d _ _ i), tt)
 
   -- the later terms f lead from node l to node r, each one step from the one before
   pub record StepWay (l r : ℕ) (f : Terms) : Type 0 where

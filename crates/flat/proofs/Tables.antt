@@ -17,29 +17,10 @@ use Rattle.model.specs.Connect.{misplaced, supported, addConnection}
 use Rattle.model.specs.Rule.{Rule}
 use Rattle.model.specs.Query.{Tables}
 use Rattle.model.specs.Tables.{ruleTable, tables, onlyIf, wordsFrom, nodeAt, nodeEntry, connectionEntry, andAdd, entries, nodeTable, connectionTable}
+use Rattle.laws.proofs.Judging.{never-good, taken, entries-keep}
 use Rattle.paths.specs.Hangs.{Accepted}
 use Rattle.flat.specs.Nodes.{AcceptedNodes}
 use Rattle.flat.specs.Accepted.{AcceptedTables}
-
-never-good : {A : Type 0} {n : ℕ} {a : A} → bad n ≡ good a → ⊥
-never-good p = let z : _≡_ {A = ℕ} 0 1 = cc in omega arith
-
--- what was accepted, and that it was no refusal
-taken : {A : Type 0} (b : Bool) (n : ℕ) (j : Judged A) (a : A) → refuseIf b n j ≡ good a → (b ≡ false) × (j ≡ good a)
-taken true n j a p = absurd (never-good p)
-taken false n j a p = (refl, p)
-
--- what each entry keeps holds of a table judged good
-module _ {A E : Type 0} (add : A → Option E → Judged A) (entry : ℕ → Option E) (start : A) (P : A → Type 0) (first : P start)
-    (next : (i : ℕ) (a b : A) → P a → add a (entry i) ≡ good b → P b) where
-  entries-keep : (k : ℕ) (a : A) → entries add entry start k ≡ good a → P a
-  unfolding entries
-  entries-keep zero a p = let e : start ≡ a = cc in subst P e first
-  entries-keep (suc k) a p = go (entries add entry start k) (entries-keep k) p
-    where
-      go : (j : Judged A) → ((b : A) → j ≡ good b → P b) → andAdd add entry start j (entry k) ≡ good a → P a
-      go (bad n) q h = absurd (never-good h)
-      go (good b) q h = next k b a (q b refl) h
 
 -- one more node at the end: what holds of each node at its number
 with-last : (P : ℕ → Node → Type 0) → ((n : ℕ) → P n noNode) → (ns : List Node) → ((n : ℕ) → P n (getD ns n noNode)) →

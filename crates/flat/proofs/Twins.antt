@@ -1,7 +1,7 @@
 -- Twins: what the support of a congruence says of its two nodes.
 use Prim.Native.Nat.{ℕ}
 use mathlib.Core.Path.{_≡_, refl, sym}
-use mathlib.Core.Bool.{Bool, true, false, _&&_, false≢true}
+use mathlib.Core.Bool.{true, and-eq-true-iff}
 use mathlib.Core.List.{List, [], _∷_}
 use borrow.Author.Tests.{eqb-true}
 use Rattle.model.specs.declared.Connection.{Connection}
@@ -25,10 +25,6 @@ paired-turned cs [] (y ∷ ys) p = absurd p
 paired-turned cs (x ∷ xs) [] p = absurd p
 paired-turned cs (x ∷ xs) (y ∷ ys) p = (sym (p .0), paired-turned cs xs ys (p .1))
 
-both : (s t : Bool) → (s && t) ≡ true → (s ≡ true) × (t ≡ true)
-both true t p = (refl, p)
-both false t p = absurd (false≢true p)
-
 module _ {ns : List Node} {cs : List Connection} where
   twins-turned : {a b : ℕ} → Twins ns cs a b → Twins ns cs b a
   twins-turned {a} {b} t =
@@ -38,7 +34,7 @@ module _ {ns : List Node} {cs : List Connection} where
   unfolding supported
   supported-twins w a b s e =
       let p : supported ns cs Congruence a b ≡ true = rw e at s in
-      let q = both (sameOp (opOf ns a) (opOf ns b)) (pairsJoined (joined cs) (kidsOf ns a) (kidsOf ns b)) p in
+      let q = and-eq-true-iff (sameOp (opOf ns a) (opOf ns b)) (pairsJoined (joined cs) (kidsOf ns a) (kidsOf ns b)) .0 p in
       record { ops = eqb-true _ _ (q .0); kids = paired cs (kidsOf ns a) (kidsOf ns b) (q .1) }
 
   -- the ends of an accepted congruence, both ways round

@@ -1,12 +1,11 @@
 -- How many marks a row of terms has, and rows each of whose terms has exactly one.
 use Prim.Native.Nat.{ℕ, _+_}
 use mathlib.Core.Path.{_≡_}
-use Rattle.model.specs.Term.{Mark, unmarked, forward, backward, Terms, noTerms, tree}
+use Rattle.model.specs.Term.{Mark, unmarked, marked, Terms, noTerms, tree}
 
 abbrev pub markCount : Mark → ℕ
 markCount unmarked = 0
-markCount (forward n) = 1
-markCount (backward n) = 1
+markCount (marked d n) = 1
 
 -- how many marked nodes a row has
 unfoldable pub marks : Terms → ℕ

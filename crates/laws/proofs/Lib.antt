@@ -1,1 +1,2 @@
+pub mod Truth
 pub mod Judging

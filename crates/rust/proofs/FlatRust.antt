@@ -7,7 +7,6 @@ use native.Mathlib.Omega.{arith}
 use lib.ListN.{length}
 use Rattle.model.specs.declared.Connection.{Connection}
 use Rattle.model.specs.declared.Direction.{Direction}
-use Rattle.model.specs.declared.Direction.the-variants.{Forward, Backward}
 use Rattle.model.specs.declared.Justification.{Justification}
 use Rattle.model.specs.declared.Justification.the-variants.{Rule as byRule, Congruence}
 use Rattle.model.specs.Term.{unmarked, Terms, noTerms, tree, join, put, one, strip}
@@ -35,10 +34,7 @@ use Rattle.rust.proofs.Merged.{merge, append}
 use Rattle.rust.proofs.Children.{reps-row, children}
 
 mark-seen : (n : ℕ) (d : Direction) (up : Bool) → isMark (markFor n d up) ≡ true
-mark-seen n Forward true = refl
-mark-seen n Forward false = refl
-mark-seen n Backward true = refl
-mark-seen n Backward false = refl
+mark-seen n d up = refl
 
 module _ (ns : List Node) (nodes : AcceptedNodes ns) where
   -- one connection, if the children's flat proofs are known
