@@ -7,20 +7,20 @@ use native.Mathlib.Omega.{arith}
 use lib.ListN.{length}
 use Rattle.model.specs.declared.Connection.{Connection}
 use Rattle.model.specs.declared.Judgement.the-variants.{Taken, Faulty}
+use Rattle.model.specs.declared.Measured.the-variants.{Unmeasured}
 use Rattle.model.specs.declared.Verdict.the-variants.{Rejected}
 use Rattle.model.specs.Judged.{Judged, good, bad, judgementOf}
 use Rattle.model.specs.Rule.{Rule}
 use Rattle.model.specs.Node.{Node}
 use Rattle.model.specs.Query.{Tables}
-use Rattle.model.specs.Tables.{nodeTable, ruleTable, connectionTable, withNodes, withConnections, tables, verdictBy}
+use Rattle.model.specs.Tables.{nodeTable, ruleTable, connectionTable, withNodes, withConnections, tables, measureBy, verdictBy}
 use Rattle.forest.specs.Tables.{firstNodes, oldest, parentWords}
 use Rattle.forest.proofs.Entries.{taken-good, faulty-bad}
 use Rattle.forest.specs.Whole.{NodesWhole, ConnectionsWhole}
 use Rattle.forest.proofs.Whole.{nodes-whole, connections-whole}
 use Rattle.rule_table.specs.Entries.{rulesIn}
 use Rattle.rule_table.proofs.Table.{table-accepted}
-use Rattle.explanation.specs.declared.Measured.the-variants.{Unmeasured}
-use Rattle.explanation.specs.Measure.{measureBy, parentsBy}
+use Rattle.explanation.specs.Measure.{parentsBy}
 
 -- a table that is refused, and nothing but zeros in the table of parents
 module _ (nws rws cws : List ℕ) where

@@ -3,6 +3,7 @@
 use model::CONNECTION_WORDS;
 use model::DISTANCE_LIMIT;
 use model::Judgement;
+use model::Measured;
 use model::NODE_LIMIT;
 use model::NODE_WORDS;
 use model::NodeNo;
@@ -13,16 +14,11 @@ ghost use Prim.Native.Nat.{_/_};
 ghost use lib.ListN.{length, replicate};
 ghost use Rattle.model.specs.Limits.{nodeLimit};
 ghost use Rattle.model.specs.Judged.{judgementOf};
-ghost use Rattle.model.specs.Tables.{tables, verdictBy};
+ghost use Rattle.model.specs.Query.{measureReport};
+ghost use Rattle.model.specs.Tables.{tables, measureBy, verdictBy};
 ghost use Rattle.model.specs.Verdict.{reportOf};
 ghost use Rattle.forest.specs.Whole.{NodesWhole, ConnectionsWhole};
-ghost use Rattle.explanation.specs.Measure.{measureBy, Measures, parentsBy, measureReport};
-
-// What the distance of a pair answers: the distance, or the number of a refusal.
-pub enum Measured {
-    Distance(usize),
-    Unmeasured(u16),
-}
+ghost use Rattle.explanation.specs.Measure.{Measures, parentsBy};
 
 // Tables handed in whole are judged before all else: nodes, rules, connections; the first bad entry decides. The table of
 // parents, lent full of zeros, holds what climbing wants of accepted connections.

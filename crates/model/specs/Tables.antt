@@ -15,6 +15,8 @@ use Rattle.model.specs.declared.Direction.{Direction}
 use Rattle.model.specs.declared.Direction.the-variants.{Forward, Backward}
 use Rattle.model.specs.declared.Justification.{Justification}
 use Rattle.model.specs.declared.Justification.the-variants.{Rule as byRule, Congruence}
+use Rattle.model.specs.declared.Measured.{Measured}
+use Rattle.model.specs.declared.Measured.the-variants.{Unmeasured}
 use Rattle.model.specs.declared.Verdict.{Verdict}
 use Rattle.model.specs.declared.Verdict.the-variants.{Rejected}
 use Rattle.model.specs.Limits.{childLimit, itemLimit}
@@ -24,7 +26,7 @@ use Rattle.model.specs.Rule.{Rule, side, ruleOf, addRule}
 use Rattle.model.specs.Verdict.{verdict}
 use Rattle.model.specs.Node.{Node, addNode}
 use Rattle.model.specs.Connect.{addConnection}
-use Rattle.model.specs.Query.{Tables, answer, areaAfter}
+use Rattle.model.specs.Query.{Tables, measure, answer, areaAfter}
 
 -- what there is, if a condition holds
 module _ {A : Type 0} where
@@ -147,6 +149,10 @@ unfolding nodeTable ruleTable connectionTable
 tables nws rws cws = withNodes (nodeTable nws) (ruleTable rws) (λ ns. connectionTable ns cws)
 
 -- "a query or check over bad ones returns that number, otherwise as its own refusals do, place 0"
+abbrev pub measureBy : Judged Tables → ℕ → ℕ → Measured
+measureBy (bad n) l r = Unmeasured n
+measureBy (good t) l r = measure t l r
+
 abbrev pub answerBy : Judged Tables → ℕ → ℕ → ℕ → Answer
 answerBy (bad n) area l r = Refused n
 answerBy (good t) area l r = answer t area l r

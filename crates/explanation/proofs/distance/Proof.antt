@@ -4,9 +4,8 @@ use borrow.Author.Needs.{needs}
 use mathlib.Core.Path.{refl, sym, ap, _∙_}
 use Rattle.model.specs.Judged.{Judged}
 use Rattle.model.specs.Query.{Tables}
-use Rattle.model.specs.Tables.{tables}
+use Rattle.model.specs.Tables.{tables, measureBy}
 use Rattle.forest.proofs.Entries.{Good, taken-good}
-use Rattle.explanation.specs.Measure.{measureBy}
 use Rattle.explanation.proofs.Whole.{whole, unmeasured}
 use Rattle.explanation.proofs.distance.Statement.{statement}
 use Rattle.explanation.proofs.distance.Tie as tie
