@@ -19,7 +19,7 @@ use Rattle.model.specs.Query.{Tables, distanceOf, proofWords, measure, writtenI
 use Rattle.forest.proofs.Joined.{joined-linked}
 use Rattle.writer.specs.Accepted.{AcceptedTables}
 use Rattle.writer.proofs.Delivered.{delivered}
-use Rattle.explanation.specs.Demand.{Unknown, Known, Apart, Over, Asked}
+use Rattle.explanation.specs.Demand.{Missing, Known, Unlinked, Exceeds, Asked}
 use Rattle.explanation.proofs.Measures.{no-left, no-right, apart, long, near}
 
 order : (a b : ℕ) → (a ≤ b) ⊎ (b < a)
@@ -33,7 +33,7 @@ module _ (t : Tables) (l r : ℕ) where
   joins : Linked (t .conns) l r → joined (t .conns) l r ≡ true
   joins k = joined-linked (t .conns) l r .1 k
 
-  parts : Apart t l r → joined (t .conns) l r ≡ false
+  parts : Unlinked t l r → joined (t .conns) l r ≡ false
   parts a = by (joined (t .conns) l r) refl
     where
       by : (b : Bool) → joined (t .conns) l r ≡ b → b ≡ false
@@ -49,7 +49,7 @@ module _ (t : Tables) (l r : ℕ) where
   unfolding answer
   measured area d e = rw (← e) refl
 
-  pub is-8 : (area : ℕ) → Unknown t l r → answer t area l r ≡ Refused 8
+  pub is-8 : (area : ℕ) → Missing t l r → answer t area l r ≡ Refused 8
   is-8 area (inl h) = unmeasured area 8 (no-left t l r h)
   is-8 area (inr h) =
       ⊎-elim
@@ -58,7 +58,7 @@ module _ (t : Tables) (l r : ℕ) where
       (order (length (t .nodes)) l)
 
   module _ (k : Known t l r) where
-    pub is-9 : (area : ℕ) → Apart t l r → answer t area l r ≡ Refused 9
+    pub is-9 : (area : ℕ) → Unlinked t l r → answer t area l r ≡ Refused 9
     is-9 area a = unmeasured area 9 (apart t l r (k .left) (k .right) (parts a))
 
     module _ (j : Linked (t .conns) l r) where
@@ -74,7 +74,7 @@ module _ (t : Tables) (l r : ℕ) where
             rw (delivered t ok l r j .written)
             (measured area (distanceOf t l r) (near t l r (k .left) (k .right) (joins j) h))
 
-        pub is-11 : Over t area l r → answer t area l r ≡ Refused 11
+        pub is-11 : Exceeds t area l r → answer t area l r ≡ Refused 11
         is-11 (inl o) = distance ∙ rw (lt-ltb area w o) refl
         is-11 (inr o) = distance ∙ rw (lt-ltb wordLimit w o, or-true (ltb area w)) refl
 
@@ -84,10 +84,10 @@ module _ (t : Tables) (l r : ℕ) where
 
 -- one of the five cases holds
 pub data Case (t : Tables) (area l r : ℕ) : Type 0 where
-  by-8 : Unknown t l r → Case t area l r
-  by-9 : Known t l r → Apart t l r → Case t area l r
+  by-8 : Missing t l r → Case t area l r
+  by-9 : Known t l r → Unlinked t l r → Case t area l r
   by-10 : Known t l r → Linked (t .conns) l r → distanceLimit < distanceOf t l r → Case t area l r
-  by-11 : Known t l r → Linked (t .conns) l r → distanceOf t l r ≤ distanceLimit → Over t area l r → Case t area l r
+  by-11 : Known t l r → Linked (t .conns) l r → distanceOf t l r ≤ distanceLimit → Exceeds t area l r → Case t area l r
   fit : Asked t area l r → Case t area l r
 
 pub cases : (t : Tables) (area l r : ℕ) → Case t area l r
@@ -133,20 +133,20 @@ module _ (t : Tables) (ok : AcceptedTables t) (area l r : ℕ) where
   told n e (by-11 k j d o) = let z = is-11 t l r k j ok d area o in cc
   told n e (fit a) = let z = is-written t l r (a .known) (a .linked) ok (a .near) area (a .fits) (a .few) in cc
 
-  pub refused-8 : (answer t area l r ≡ Refused 8) ↔ Unknown t l r
+  pub refused-8 : (answer t area l r ≡ Refused 8) ↔ Missing t l r
   refused-8 = (λ e. pick (cases t area l r) (told 8 e (cases t area l r)), is-8 t l r area)
     where
-      pick : (c : Case t area l r) → number c ≡ 8 → Unknown t l r
+      pick : (c : Case t area l r) → number c ≡ 8 → Missing t l r
       pick (by-8 u) e = u
       pick (by-9 k a) e = absurd (omega arith)
       pick (by-10 k j d) e = absurd (omega arith)
       pick (by-11 k j d o) e = absurd (omega arith)
       pick (fit a) e = absurd (omega arith)
 
-  pub refused-9 : (answer t area l r ≡ Refused 9) ↔ (Known t l r × Apart t l r)
+  pub refused-9 : (answer t area l r ≡ Refused 9) ↔ (Known t l r × Unlinked t l r)
   refused-9 = (λ e. pick (cases t area l r) (told 9 e (cases t area l r)), λ h. is-9 t l r (h .0) area (h .1))
     where
-      pick : (c : Case t area l r) → number c ≡ 9 → Known t l r × Apart t l r
+      pick : (c : Case t area l r) → number c ≡ 9 → Known t l r × Unlinked t l r
       pick (by-8 u) e = absurd (omega arith)
       pick (by-9 k a) e = (k, a)
       pick (by-10 k j d) e = absurd (omega arith)
@@ -164,11 +164,11 @@ module _ (t : Tables) (ok : AcceptedTables t) (area l r : ℕ) where
       pick (fit a) e = absurd (omega arith)
 
   pub refused-11 : (answer t area l r ≡ Refused 11)
-      ↔ (Known t l r × Linked (t .conns) l r × (distanceOf t l r ≤ distanceLimit) × Over t area l r)
+      ↔ (Known t l r × Linked (t .conns) l r × (distanceOf t l r ≤ distanceLimit) × Exceeds t area l r)
   refused-11 = (λ e. pick (cases t area l r) (told 11 e (cases t area l r)), λ h. is-11 t l r (h .0) (h .1) ok (h .2) area (h .3))
     where
       pick : (c : Case t area l r) → number c ≡ 11
-          → Known t l r × Linked (t .conns) l r × (distanceOf t l r ≤ distanceLimit) × Over t area l r
+          → Known t l r × Linked (t .conns) l r × (distanceOf t l r ≤ distanceLimit) × Exceeds t area l r
       pick (by-8 u) e = absurd (omega arith)
       pick (by-9 k a) e = absurd (omega arith)
       pick (by-10 k j d) e = absurd (omega arith)

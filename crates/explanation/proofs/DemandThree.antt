@@ -15,20 +15,20 @@ use Rattle.model.specs.Limits.{distanceLimit}
 use Rattle.model.specs.Judged.{Judged, good, bad}
 use Rattle.model.specs.Forest.{Linked}
 use Rattle.model.specs.Query.{Tables, distanceOf, proofWords, areaBy, areaAfter}
-use Rattle.model.specs.Tables.{tables, answerBy, areaOf, verdictBy}
+use Rattle.model.specs.Tables.{judgeTables, answerBy, areaOf, verdictBy}
 use Rattle.writer.specs.Accepted.{AcceptedTables}
 use Rattle.writer.proofs.Tables.{tables-accepted}
 use Rattle.writer.proofs.Delivered.{delivered}
-use Rattle.explanation.specs.Demand.{Unknown, Known, Apart, Over, Asked, Granted}
+use Rattle.explanation.specs.Demand.{Missing, Known, Unlinked, Exceeds, Asked, Granted}
 use Rattle.explanation.proofs.Answers.{Case, by-8, by-9, by-10, by-11, fit, cases, is-written}
 use Rattle.explanation.proofs.Answers as answers
 use Rattle.explanation.proofs.DemandTwo.{demand-2}
 
-module _ (nws rws cws : List ℕ) (t : Tables) (are : tables nws rws cws ≡ good t) (area l r : ℕ) where
+module _ (nws rws cws : List ℕ) (t : Tables) (are : judgeTables nws rws cws ≡ good t) (area l r : ℕ) where
   ok : AcceptedTables t
   ok = tables-accepted nws rws cws t are
 
-  pub demand-3 : Asked t area l r → Granted (tables nws rws cws) t area l r
+  pub demand-3 : Asked t area l r → Granted (judgeTables nws rws cws) t area l r
   unfolding areaAfter
   demand-3 a =
       let d = delivered t ok l r (a .linked) in
@@ -44,23 +44,23 @@ module _ (nws rws cws : List ℕ) (t : Tables) (are : tables nws rws cws ≡ goo
         accepted = λ p. demand-2 nws rws cws t are (proofWords t l r) (suc (distanceOf t l r)) .1 (d .proves p (a .near) (a .few));
       }
 
-  pub refused-8 : (answerBy (tables nws rws cws) area l r ≡ Refused 8) ↔ Unknown t l r
+  pub refused-8 : (answerBy (judgeTables nws rws cws) area l r ≡ Refused 8) ↔ Missing t l r
   refused-8 = rw are (answers.refused-8 t ok area l r)
 
-  pub refused-9 : (answerBy (tables nws rws cws) area l r ≡ Refused 9) ↔ (Known t l r × Apart t l r)
+  pub refused-9 : (answerBy (judgeTables nws rws cws) area l r ≡ Refused 9) ↔ (Known t l r × Unlinked t l r)
   refused-9 = rw are (answers.refused-9 t ok area l r)
 
-  pub refused-10 : (answerBy (tables nws rws cws) area l r ≡ Refused 10)
+  pub refused-10 : (answerBy (judgeTables nws rws cws) area l r ≡ Refused 10)
       ↔ (Known t l r × Linked (t .conns) l r × (distanceLimit < distanceOf t l r))
   refused-10 = rw are (answers.refused-10 t ok area l r)
 
-  pub refused-11 : (answerBy (tables nws rws cws) area l r ≡ Refused 11)
-      ↔ (Known t l r × Linked (t .conns) l r × (distanceOf t l r ≤ distanceLimit) × Over t area l r)
+  pub refused-11 : (answerBy (judgeTables nws rws cws) area l r ≡ Refused 11)
+      ↔ (Known t l r × Linked (t .conns) l r × (distanceOf t l r ≤ distanceLimit) × Exceeds t area l r)
   refused-11 = rw are (answers.refused-11 t ok area l r)
 
 -- "a query or check over bad ones returns that number"
-pub bad-tables : (nws rws cws : List ℕ) (n : ℕ) → tables nws rws cws ≡ bad n → (area l r : ℕ) (ws : List ℕ)
-    → (answerBy (tables nws rws cws) area l r ≡ Refused n) × (verdictBy (tables nws rws cws) ws ≡ Rejected n 0)
+pub bad-tables : (nws rws cws : List ℕ) (n : ℕ) → judgeTables nws rws cws ≡ bad n → (area l r : ℕ) (ws : List ℕ)
+    → (answerBy (judgeTables nws rws cws) area l r ≡ Refused n) × (verdictBy (judgeTables nws rws cws) ws ≡ Rejected n 0)
 bad-tables nws rws cws n e area l r ws = (rw e refl, rw e refl)
 
 -- a refusal leaves the area all zero, over bad tables too
@@ -71,13 +71,13 @@ refused-zero (good t) area l r n e = rw e refl
 
 -- and the area is always as long as it was
 module _ (nws rws cws : List ℕ) (area l r : ℕ) where
-  zeros : {n : ℕ} → answerBy (tables nws rws cws) area l r ≡ Refused n → length (areaOf (tables nws rws cws) area l r) ≡ area
-  zeros e = ap length (refused-zero (tables nws rws cws) area l r _ e) ∙ length-replicate {A = ℕ} area 0
+  zeros : {n : ℕ} → answerBy (judgeTables nws rws cws) area l r ≡ Refused n → length (areaOf (judgeTables nws rws cws) area l r) ≡ area
+  zeros e = ap length (refused-zero (judgeTables nws rws cws) area l r _ e) ∙ length-replicate {A = ℕ} area 0
 
-  pub area-kept : length (areaOf (tables nws rws cws) area l r) ≡ area
-  area-kept = by (tables nws rws cws) refl
+  pub area-kept : length (areaOf (judgeTables nws rws cws) area l r) ≡ area
+  area-kept = by (judgeTables nws rws cws) refl
     where
-      among : (t : Tables) (are : tables nws rws cws ≡ good t) → Case t area l r → length (areaOf (tables nws rws cws) area l r) ≡ area
+      among : (t : Tables) (are : judgeTables nws rws cws ≡ good t) → Case t area l r → length (areaOf (judgeTables nws rws cws) area l r) ≡ area
       among t are (by-8 u) = zeros (refused-8 nws rws cws t are area l r .1 u)
       among t are (by-9 k a) = zeros (refused-9 nws rws cws t are area l r .1 (k, a))
       among t are (by-10 k j d) = zeros (refused-10 nws rws cws t are area l r .1 (k, j, d))
@@ -88,6 +88,6 @@ module _ (nws rws cws : List ℕ) (area l r : ℕ) where
           ∙ (length-append (proofWords t l r) (replicate (area - n) 0)
           ∙ omega (arith, a .fits, length-replicate {A = ℕ} (area - n) 0))
 
-      by : (j : Judged Tables) → tables nws rws cws ≡ j → length (areaOf (tables nws rws cws) area l r) ≡ area
+      by : (j : Judged Tables) → judgeTables nws rws cws ≡ j → length (areaOf (judgeTables nws rws cws) area l r) ≡ area
       by (bad n) e = zeros (bad-tables nws rws cws n e area l r [] .0)
       by (good t) e = among t e (cases t area l r)

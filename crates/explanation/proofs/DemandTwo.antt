@@ -8,9 +8,9 @@ use Rattle.model.specs.declared.Verdict.the-variants.{Accepted}
 use Rattle.model.specs.Judged.{good}
 use Rattle.model.specs.Verdict.{Proves}
 use Rattle.model.specs.Query.{Tables}
-use Rattle.model.specs.Tables.{tables, verdictBy}
+use Rattle.model.specs.Tables.{judgeTables, verdictBy}
 use Rattle.checker.proofs.DemandTwo.{demand-2 as by-checker}
 
-pub demand-2 : (nws rws cws : List ℕ) (t : Tables) → tables nws rws cws ≡ good t
-    → (ws : List ℕ) (n : ℕ) → (verdictBy (tables nws rws cws) ws ≡ Accepted n) ↔ Proves (t .rules) ws n
+pub demand-2 : (nws rws cws : List ℕ) (t : Tables) → judgeTables nws rws cws ≡ good t
+    → (ws : List ℕ) (n : ℕ) → (verdictBy (judgeTables nws rws cws) ws ≡ Accepted n) ↔ Proves (t .rules) ws n
 demand-2 nws rws cws t e ws n = rw e (by-checker (t .rules) ws n)

@@ -18,7 +18,7 @@ use Rattle.model.specs.Forest.{by, dist}
 use Rattle.model.specs.Flat.{flatProof}
 use Rattle.model.specs.Premise.{Premise}
 use Rattle.model.specs.Query.{Tables}
-use Rattle.model.specs.Tables.{tables, answerBy, areaOf, verdictBy}
+use Rattle.model.specs.Tables.{judgeTables, answerBy, areaOf, verdictBy}
 use Rattle.explanation.specs.Demand.{Asked, Granted}
 use Rattle.explanation.proofs.DemandThree.{demand-3}
 
@@ -47,8 +47,8 @@ t =
           ∷ record { current = record { 0 = 0 }; next = record { 0 = 1 }; why = byRule (record { 0 = 7 }) Forward } ∷ [];
     }
 
-are : tables nodes rules connections ≡ good t
-unfolding tables nodes rules connections t
+are : judgeTables nodes rules connections ≡ good t
+unfolding judgeTables nodes rules connections t
 are = refl
 
 -- each rule connection is an instance of its listed rule: r7 has no variable, so that any substitution will do
@@ -78,21 +78,21 @@ asked =
       few = omega arith;
     }
 
-granted : Granted (tables nodes rules connections) t 20 2 3
+granted : Granted (judgeTables nodes rules connections) t 20 2 3
 granted = demand-3 nodes rules connections t are 20 2 3 asked
 
 -- so the answer is distance 1 and 16 words, the area holds P1's two terms and zeros, and the checker accepts two terms
-answer-is : answerBy (tables nodes rules connections) 20 2 3 ≡ Written 1 16
+answer-is : answerBy (judgeTables nodes rules connections) 20 2 3 ≡ Written 1 16
 unfolding t dist flatProof words
 answer-is = granted .answers
 
 offered : List ℕ
 offered = (3 ∷ 1 ∷ 0 ∷ 0 ∷ 1 ∷ 0 ∷ 0 ∷ 0 ∷ []) ++ (3 ∷ 1 ∷ 0 ∷ 0 ∷ 2 ∷ 0 ∷ 1 ∷ 7 ∷ [])
 
-area-is : areaOf (tables nodes rules connections) 20 2 3 ≡ offered ++ replicate 4 0
+area-is : areaOf (judgeTables nodes rules connections) 20 2 3 ≡ offered ++ replicate 4 0
 unfolding t offered dist flatProof words count
 area-is = granted .lent
 
-verdict-is : verdictBy (tables nodes rules connections) offered ≡ Accepted 2
+verdict-is : verdictBy (judgeTables nodes rules connections) offered ≡ Accepted 2
 unfolding t offered dist flatProof words count
 verdict-is = granted .accepted premise

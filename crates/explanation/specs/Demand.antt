@@ -22,20 +22,20 @@ use Rattle.writer.specs.Ends.{first, last}
 use Rattle.writer.specs.Marks.{OneMarkEach}
 
 -- "query number not in the node table"
-abbrev pub Unknown : Tables → ℕ → ℕ → Type 0
-Unknown t l r = (length (t .nodes) ≤ l) ⊎ (length (t .nodes) ≤ r)
+abbrev pub Missing : Tables → ℕ → ℕ → Type 0
+Missing t l r = (length (t .nodes) ≤ l) ⊎ (length (t .nodes) ≤ r)
 
 pub record Known (t : Tables) (l r : ℕ) : Type 0 where
   pub left : l < length (t .nodes)
   pub right : r < length (t .nodes)
 
 -- "no chain of connections joins the pair"
-abbrev pub Apart : Tables → ℕ → ℕ → Type 0
-Apart t l r = Linked (t .conns) l r → ⊥
+abbrev pub Unlinked : Tables → ℕ → ℕ → Type 0
+Unlinked t l r = Linked (t .conns) l r → ⊥
 
 -- "needed words exceed the area, or 1,048,576"
-abbrev pub Over : Tables → ℕ → ℕ → ℕ → Type 0
-Over t area l r = (area < length (proofWords t l r)) ⊎ (wordLimit < length (proofWords t l r))
+abbrev pub Exceeds : Tables → ℕ → ℕ → ℕ → Type 0
+Exceeds t area l r = (area < length (proofWords t l r)) ⊎ (wordLimit < length (proofWords t l r))
 
 -- what a query needs to be answered: none of these holds
 pub record Asked (t : Tables) (area l r : ℕ) : Type 0 where

@@ -109,11 +109,11 @@ connectionFrame (a ∷ b ∷ c ∷ d ∷ k ∷ r ∷ n ∷ f ∷ []) = connectio
 connectionFrame (a ∷ b ∷ c ∷ d ∷ k ∷ r ∷ n ∷ f ∷ x ∷ bs) = none
 
 -- 04: "left 2, right 2"
-pub record Pair : Type 0 where
+pub record NodePair : Type 0 where
   pub left : ℕ
   pub right : ℕ
 
-unfoldable pub queryFrame : List ℕ → Option Pair
+unfoldable pub queryFrame : List ℕ → Option NodePair
 queryFrame [] = none
 queryFrame (a ∷ []) = none
 queryFrame (a ∷ b ∷ []) = none
@@ -145,7 +145,7 @@ pub data Frame : Type 0 where
   node : Option Node → Frame
   rule : Option Rule → Frame
   connection : Option Connection → Frame
-  query : Option Pair → Frame
+  query : Option NodePair → Frame
   offered : Option (List ℕ) → Frame
   close : Bool → Frame
   unknown : Frame

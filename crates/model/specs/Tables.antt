@@ -144,9 +144,9 @@ abbrev pub withNodes : Judged (List Node) → Judged (List Rule) → (List Node 
 withNodes (bad n) rs cs = bad n
 withNodes (good ns) rs cs = withRules ns rs (cs ns)
 
-unfoldable pub tables : List ℕ → List ℕ → List ℕ → Judged Tables
+unfoldable pub judgeTables : List ℕ → List ℕ → List ℕ → Judged Tables
 unfolding nodeTable ruleTable connectionTable
-tables nws rws cws = withNodes (nodeTable nws) (ruleTable rws) (λ ns. connectionTable ns cws)
+judgeTables nws rws cws = withNodes (nodeTable nws) (ruleTable rws) (λ ns. connectionTable ns cws)
 
 -- "a query or check over bad ones returns that number, otherwise as its own refusals do, place 0"
 abbrev pub measureBy : Judged Tables → ℕ → ℕ → Measured
