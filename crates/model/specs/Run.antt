@@ -17,9 +17,9 @@ use Rattle.model.specs.Verdict.{verdict}
 use Rattle.model.specs.Node.{Node, addNode}
 use Rattle.model.specs.Connect.{addConnection}
 use Rattle.model.specs.Flat.{flatProof}
-use Rattle.model.specs.Query.{Tables, noTables, answer}
+use Rattle.model.specs.Query.{Tables, noTables, proofOf, answer}
 use Rattle.model.specs.Text.{bytes, digits, lines}
-use Rattle.model.specs.Frame.{lineBytes, Frame, node, rule, connection, query, offered, close, unknown, NodePair, frameOf}
+use Rattle.model.specs.Frame.{noKind, nodeKind, ruleKind, connectionKind, queryKind, wordsKind, endKind, lineBytes, Frame, node, rule, connection, query, offered, close, unknown, NodePair, frameOf}
 
 -- What the run keeps from line to line: the kind of the last frame, the tables, and the words of the proof that is open.
 pub record State : Type 0 where
@@ -28,7 +28,7 @@ pub record State : Type 0 where
   pub open-words : List ℕ
 
 abbrev pub start : State
-start = record { kind = 0; tables = noTables; open-words = [] }
+start = record { kind = noKind; tables = noTables; open-words = [] }
 
 -- What a line gives: what is printed, and the state for the next; or a refusal that ends the run.
 pub data Turn : Type 0 where
@@ -44,7 +44,7 @@ refusalText n l = bytes "refused " ++ (digits n ++ (bytes " line " ++ (digits l 
 unfoldable pub answerText : Tables → NodePair → ℕ → Answer → List ℕ
 unfolding bytes digits lines flatProof refusalText
 answerText t p l (Written d w) =
-    bytes "distance " ++ (digits d ++ (bytes "\n" ++ lines (flatProof (t .nodes) (t .conns) (p .left) (p .right))))
+    bytes "distance " ++ (digits d ++ (bytes "\n" ++ lines (proofOf t (p .left) (p .right))))
 answerText t p l (Refused n) = refusalText n l
 
 -- "A verdict prints `accepted T` (terms) or `rejected N term K`."
@@ -57,28 +57,28 @@ verdictText (Rejected n k) = bytes "rejected " ++ (digits n ++ (bytes " term " +
 abbrev pub nodeTurn : State → Judged (List Node) → Turn
 nodeTurn s (bad n) = stop n
 nodeTurn s (good ns) =
-    go [] (record { kind = 1; tables = record { nodes = ns; rules = s .tables .rules; conns = s .tables .conns }; open-words = [] })
+    go [] (record { kind = nodeKind; tables = record { nodes = ns; rules = s .tables .rules; conns = s .tables .conns }; open-words = [] })
 
 abbrev pub ruleTurn : State → Judged (List Rule) → Turn
 ruleTurn s (bad n) = stop n
 ruleTurn s (good rs) =
-    go [] (record { kind = 2; tables = record { nodes = s .tables .nodes; rules = rs; conns = s .tables .conns }; open-words = [] })
+    go [] (record { kind = ruleKind; tables = record { nodes = s .tables .nodes; rules = rs; conns = s .tables .conns }; open-words = [] })
 
 abbrev pub connectionTurn : State → Judged (List Connection) → Turn
 connectionTurn s (bad n) = stop n
 connectionTurn s (good cs) =
-    go [] (record { kind = 3; tables = record { nodes = s .tables .nodes; rules = s .tables .rules; conns = cs }; open-words = [] })
+    go [] (record { kind = connectionKind; tables = record { nodes = s .tables .nodes; rules = s .tables .rules; conns = cs }; open-words = [] })
 
 abbrev pub queried : State → ℕ → Option NodePair → Turn
 queried s l none = stop 2
 queried s l (some p) =
     go (answerText (s .tables) p l (answer (s .tables) programArea (p .left) (p .right)))
-    (record { kind = 4; tables = s .tables; open-words = [] })
+    (record { kind = queryKind; tables = s .tables; open-words = [] })
 
 -- "an offered proof that outgrows the area (11)"
 abbrev pub openedIf : Bool → State → List ℕ → Turn
 openedIf true s ws = stop 11
-openedIf false s ws = go [] (record { kind = 5; tables = s .tables; open-words = ws })
+openedIf false s ws = go [] (record { kind = wordsKind; tables = s .tables; open-words = ws })
 
 abbrev pub opened : State → Option (List ℕ) → Turn
 opened s none = stop 2
@@ -86,7 +86,7 @@ opened s (some ws) = openedIf (ltb programArea (length (s .open-words) + length 
 
 abbrev pub closed : State → Bool → Turn
 closed s false = stop 2
-closed s true = go (verdictText (verdict (s .tables .rules) (s .open-words))) (record { kind = 6; tables = s .tables; open-words = [] })
+closed s true = go (verdictText (verdict (s .tables .rules) (s .open-words))) (record { kind = endKind; tables = s .tables; open-words = [] })
 
 unfoldable pub frameTurn : State → ℕ → Frame → Turn
 unfolding addNode addRule addConnection answer answerText verdictText verdict
@@ -100,7 +100,7 @@ frameTurn s l unknown = stop 2
 
 -- "Kinds never go down, but 05 and 06 may follow 06."
 unfoldable pub inOrder : ℕ → ℕ → Bool
-inOrder last kind = leb last kind || (eqb last 6 && eqb kind 5)
+inOrder last kind = leb last kind || (eqb last endKind && eqb kind wordsKind)
 
 abbrev pub turnIf : Bool → State → ℕ → Frame → Turn
 turnIf true s l f = frameTurn s l f
@@ -112,6 +112,9 @@ unfolding frameTurn inOrder frameOf
 lineTurn s l none = stop 1
 lineTurn s l (some []) = stop 1
 lineTurn s l (some (k ∷ bs)) = turnIf (inOrder (s .kind) k) s l (frameOf k bs)
+
+abbrev pub lineFeed : ℕ
+lineFeed = 10
 
 -- the input's lines, and what stands behind the last line feed
 pub record InputLines : Type 0 where
@@ -128,14 +131,14 @@ byteOn false b p = lineFront b (p .whole) (p .rest)
 
 unfoldable pub split : List ℕ → InputLines
 split [] = record { whole = []; rest = [] }
-split (b ∷ bs) = byteOn (eqb b 10) b (split bs)
+split (b ∷ bs) = byteOn (eqb b lineFeed) b (split bs)
 
 -- at the end of the input, on line l: a line that "lacks its line feed" is 1; "Input that ends with terms still open: 2, on
 -- the line after the last"
 unfoldable pub atEnd : State → ℕ → List ℕ → List ℕ
 unfolding refusalText
 atEnd s l (b ∷ bs) = refusalText 1 l
-atEnd s l [] = elim (eqb (s .kind) 5) [ true ↦ refusalText 2 l | false ↦ [] ]
+atEnd s l [] = elim (eqb (s .kind) wordsKind) [ true ↦ refusalText 2 l | false ↦ [] ]
 
 unfoldable pub run : State → ℕ → List (List ℕ) → List ℕ → List ℕ
 unfolding lineTurn atEnd lineBytes refusalText
