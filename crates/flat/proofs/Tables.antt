@@ -16,7 +16,7 @@ use Rattle.model.specs.Forest.{cur, nxt}
 use Rattle.model.specs.Connect.{misplaced, supported, addConnection}
 use Rattle.model.specs.Rule.{Rule}
 use Rattle.model.specs.Query.{Tables}
-use Rattle.model.specs.Tables.{ruleTable, tables, onlyIf, wordsFrom, nodeAt, nodeEntry, connectionEntry, andAdd, entries, nodeTable, connectionTable}
+use Rattle.model.specs.Tables.{ruleTable, judgeTables, onlyIf, wordsFrom, nodeAt, nodeEntry, connectionEntry, andAdd, entries, nodeTable, connectionTable}
 use Rattle.laws.proofs.Judging.{never-good, taken, entries-keep}
 use Rattle.paths.specs.Hangs.{Accepted}
 use Rattle.flat.specs.Nodes.{AcceptedNodes}
@@ -97,20 +97,20 @@ table-connections ns ws cs = entries-keep (addConnection ns) (connectionEntry ws
         go none q = absurd (never-good q)
         go (some c) q = let e = connections-more ns a b c q in subst (Accepted ns) e (q ∙ ap good (sym e), k)
 
-pub tables-accepted : (nws rws cws : List ℕ) (t : Tables) → tables nws rws cws ≡ good t → AcceptedTables t
-unfolding tables
+pub tables-accepted : (nws rws cws : List ℕ) (t : Tables) → judgeTables nws rws cws ≡ good t → AcceptedTables t
+unfolding judgeTables
 tables-accepted nws rws cws t p = first (nodeTable nws) refl (ruleTable rws) refl
   where
     third : (ns : List Node) (rs : List Rule) → nodeTable nws ≡ good ns → ruleTable rws ≡ good rs → (c : Judged (List Connection)) →
         connectionTable ns cws ≡ c → AcceptedTables t
-    third ns rs a b (bad n) q = absurd (never-good (rw (a, tables, b, tables, q, tables) at p))
+    third ns rs a b (bad n) q = absurd (never-good (rw (a, judgeTables, b, judgeTables, q, judgeTables) at p))
     third ns rs a b (good cs) q =
         let whole : Tables = record { nodes = ns; rules = rs; conns = cs } in
-        let h : good whole ≡ good t = rw (a, tables, b, tables, q, tables) at p in
+        let h : good whole ≡ good t = rw (a, judgeTables, b, judgeTables, q, judgeTables) at p in
         let e : whole ≡ t = cc in
         subst AcceptedTables e (record { nodes = table-nodes nws ns a; conns = table-connections ns cws cs q })
 
     first : (a : Judged (List Node)) → nodeTable nws ≡ a → (b : Judged (List Rule)) → ruleTable rws ≡ b → AcceptedTables t
-    first (bad n) a b q = absurd (never-good (rw (a, tables) at p))
-    first (good ns) a (bad n) b = absurd (never-good (rw (a, tables, b, tables) at p))
+    first (bad n) a b q = absurd (never-good (rw (a, judgeTables) at p))
+    first (good ns) a (bad n) b = absurd (never-good (rw (a, judgeTables, b, judgeTables) at p))
     first (good ns) a (good rs) b = third ns rs a b (connectionTable ns cws) refl

@@ -54,6 +54,12 @@ pub enum Verdict {
     Rejected(u16, usize),
 }
 
+// What the distance of a pair answers: the distance, or the number of a refusal.
+pub enum Measured {
+    Distance(usize),
+    Unmeasured(u16),
+}
+
 // What a query answers: the distance and the words written, or the number of a refusal.
 pub enum Answer {
     Written(usize, usize),
