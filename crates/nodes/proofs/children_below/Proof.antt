@@ -3,13 +3,14 @@ use borrow.Author.Needs.{needs}
 use native.Mathlib.Omega.{arith}
 use Prim.Native.Nat.{_+_, _*_, _-_}
 use mathlib.Core.Path.{_≡_, _∙_}
+use Rattle.model.specs.Tables.{nodeWords, childrenAt}
 use Rattle.entries.proofs.Children.{Lower, lower-all, lower-next, lower-off, lower-done}
 use Rattle.entries.specs.Nodes.{countIn}
 use Rattle.nodes.proofs.children_below.Statement.{statement}
 use Rattle.nodes.proofs.children_below.Tie as tie
 
 abbrev Inv-loop : tie.InvT-loop
-Inv-loop nodes n count i₀ i = (count ≡ countIn nodes n) × Lower n nodes (n * 10 + 2) (countIn nodes n) i
+Inv-loop nodes n count i₀ i = (count ≡ countIn nodes n) × Lower n nodes (n * nodeWords + childrenAt) (countIn nodes n) i
 
 abbrev μ-loop : tie.MeasureT-loop
 μ-loop nodes n count i₀ i = count - i

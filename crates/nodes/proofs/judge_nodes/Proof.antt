@@ -5,6 +5,7 @@ use Prim.Native.Nat.{_*_, _-_, _≤_}
 use mathlib.Core.Path.{_≡_, sym, ap, _∙_}
 use lib.ListN.{length}
 use native.Mathlib.Numerals.{add-one}
+use Rattle.model.specs.Tables.{nodeWords}
 use Rattle.model.specs.Limits.{nodeLimit}
 use Rattle.model.specs.Judged.{good, judgementOf}
 use Rattle.entries.specs.Nodes.{nodesTo, firstNodes}
@@ -16,7 +17,7 @@ abbrev Inv-loop : tie.InvT-loop
 Inv-loop nodes n₀ n = nodesTo nodes n ≡ good (firstNodes n nodes)
 
 abbrev μ-loop : tie.MeasureT-loop
-μ-loop nodes n₀ n = length nodes - n * 10
+μ-loop nodes n₀ n = length nodes - n * nodeWords
 
 few : (c : tie.At-loop Inv-loop μ-loop) → c .loop .n ≤ nodeLimit
 few c = nodes _ _ _ (c .loop .inv) .stand .few
