@@ -57,7 +57,7 @@ fn children_below(nodes: &[u16], n: usize) -> bool
 }
 
 // Judges the entry of node n, behind the nodes before it.
-pub fn judge_node(nodes: &[u16], n: usize) -> Judgement
+fn judge_node(nodes: &[u16], n: usize) -> Judgement
     requires { ⌜ n ≤ nodeLimit ⌝ }
     ensures { λ r. ⌜ r ≡ judgementOf (addNode (firstNodes n (now (nodes .entry))) (nodeEntry (now (nodes .entry)) n)) ⌝ }
 {
