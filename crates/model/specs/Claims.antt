@@ -200,6 +200,15 @@ terms-too-many : verdict [] (leaves 4097) ≡ Rejected 19 0
 unfolding leaves verdict
 terms-too-many = refl
 
+-- Tables handed in whole: nodes before rules (4, and 2 behind it), rules before connections (2, and 6 behind it).
+nodes-first : numberIn (judgeTables (1 ∷ 1 ∷ replicate 8 0) (0 ∷ []) []) ≡ 4
+unfolding judgeTables
+nodes-first = refl
+
+rules-first : numberIn (judgeTables [] (0 ∷ []) (0 ∷ 1 ∷ 1 ∷ 7 ∷ 1 ∷ [])) ≡ 2
+unfolding judgeTables
+rules-first = refl
+
 -- The lent area: the proof's words and zeros, or all zero, over bad tables too.
 area-written : areaAfter (tower 0) 10 0 1 ≡ 1 ∷ 0 ∷ 0 ∷ 0 ∷ 2 ∷ 0 ∷ 1 ∷ 7 ∷ 0 ∷ 0 ∷ []
 unfolding tower areaAfter count
