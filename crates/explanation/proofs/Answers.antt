@@ -16,9 +16,9 @@ use Rattle.model.specs.Limits.{distanceLimit, wordLimit}
 use Rattle.model.specs.Forest.{Linked, joined}
 use Rattle.model.specs.Flat.{needed}
 use Rattle.model.specs.Query.{Tables, distanceOf, proofWords, measure, writtenIf, answer}
-use Rattle.forest.proofs.Joined.{joined-linked}
-use Rattle.writer.specs.Accepted.{AcceptedTables}
-use Rattle.writer.proofs.Delivered.{delivered}
+use Rattle.paths.proofs.Joined.{joined-linked}
+use Rattle.flat.specs.Accepted.{AcceptedTables}
+use Rattle.flat.proofs.Delivered.{delivered}
 use Rattle.explanation.specs.Demand.{Missing, Known, Unlinked, Exceeds, Asked}
 use Rattle.explanation.proofs.Measures.{no-left, no-right, apart, long, near}
 

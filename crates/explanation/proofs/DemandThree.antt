@@ -16,9 +16,9 @@ use Rattle.model.specs.Judged.{Judged, good, bad}
 use Rattle.model.specs.Forest.{Linked}
 use Rattle.model.specs.Query.{Tables, distanceOf, proofWords, areaBy, areaAfter}
 use Rattle.model.specs.Tables.{judgeTables, answerBy, areaOf, verdictBy}
-use Rattle.writer.specs.Accepted.{AcceptedTables}
-use Rattle.writer.proofs.Tables.{tables-accepted}
-use Rattle.writer.proofs.Delivered.{delivered}
+use Rattle.flat.specs.Accepted.{AcceptedTables}
+use Rattle.flat.proofs.Tables.{tables-accepted}
+use Rattle.flat.proofs.Delivered.{delivered}
 use Rattle.explanation.specs.Demand.{Missing, Known, Unlinked, Exceeds, Asked, Granted}
 use Rattle.explanation.proofs.Answers.{Case, by-8, by-9, by-10, by-11, fit, cases, is-written}
 use Rattle.explanation.proofs.Answers as answers

@@ -14,10 +14,14 @@ use Rattle.model.specs.Rule.{Rule}
 use Rattle.model.specs.Node.{Node}
 use Rattle.model.specs.Query.{Tables}
 use Rattle.model.specs.Tables.{nodeTable, ruleTable, connectionTable, withNodes, withConnections, judgeTables, measureBy, verdictBy, nodeWords, ruleWords, connectionWords}
-use Rattle.forest.specs.Tables.{firstNodes, oldest, parentWords}
-use Rattle.forest.proofs.Entries.{taken-good, faulty-bad}
-use Rattle.forest.specs.Whole.{NodesWhole, ConnectionsWhole}
-use Rattle.forest.proofs.Whole.{nodes-whole, connections-whole}
+use Rattle.entries.specs.Nodes.{firstNodes}
+use Rattle.entries.specs.Connections.{oldest}
+use Rattle.forest.specs.Parents.{parentWords}
+use Rattle.laws.proofs.Judging.{taken-good, faulty-bad}
+use Rattle.entries.specs.Nodes.{NodesWhole}
+use Rattle.forest.specs.Parents.{ConnectionsWhole}
+use Rattle.entries.proofs.Nodes.{nodes-whole}
+use Rattle.forest.proofs.Whole.{connections-whole}
 use Rattle.rule_table.specs.Entries.{rulesIn}
 use Rattle.rule_table.proofs.Table.{table-accepted}
 use Rattle.explanation.specs.Measure.{parentsBy}

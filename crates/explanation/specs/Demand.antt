@@ -18,8 +18,8 @@ use Rattle.model.specs.Flat.{later}
 use Rattle.model.specs.Premise.{Premise}
 use Rattle.model.specs.Query.{Tables, distanceOf, proofOf, proofWords}
 use Rattle.model.specs.Tables.{answerBy, areaOf, verdictBy}
-use Rattle.writer.specs.Ends.{first, last}
-use Rattle.writer.specs.Marks.{OneMarkEach}
+use Rattle.flat.specs.Ends.{first, last}
+use Rattle.flat.specs.Marks.{OneMarkEach}
 
 -- "query number not in the node table"
 abbrev pub Missing : Tables → ℕ → ℕ → Type 0

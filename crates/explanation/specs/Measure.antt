@@ -9,7 +9,9 @@ use Rattle.model.specs.Limits.{nodeLimit}
 use Rattle.model.specs.Judged.{Judged, good, bad}
 use Rattle.model.specs.Query.{Tables, measure}
 use Rattle.model.specs.Tables.{nodeWords, connectionWords}
-use Rattle.forest.specs.Tables.{firstNodes, oldest, agesOf}
+use Rattle.entries.specs.Nodes.{firstNodes}
+use Rattle.entries.specs.Connections.{oldest}
+use Rattle.forest.specs.Parents.{agesOf}
 
 -- what is measured, over the words of accepted tables
 abbrev pub Measures : List ℕ → List ℕ → ℕ → ℕ → Measured → Type 0

@@ -17,7 +17,8 @@ ghost use Rattle.model.specs.Judged.{judgementOf};
 ghost use Rattle.model.specs.Query.{measureReport};
 ghost use Rattle.model.specs.Tables.{judgeTables, measureBy, verdictBy, nodeWords};
 ghost use Rattle.model.specs.Verdict.{reportOf};
-ghost use Rattle.forest.specs.Whole.{NodesWhole, ConnectionsWhole};
+ghost use Rattle.entries.specs.Nodes.{NodesWhole};
+ghost use Rattle.forest.specs.Parents.{ConnectionsWhole};
 ghost use Rattle.explanation.specs.Measure.{Measures, parentsBy};
 
 // Tables handed in whole are judged before all else: nodes, rules, connections; the first bad entry decides. The table of
@@ -27,7 +28,7 @@ fn judge_tables(nodes: &[u16], rules: &[u16], connections: &[u16], parents: &mut
     ensures { λ r. ⌜ r ≡ judgementOf (judgeTables (now (nodes .entry)) (now (rules .entry)) (now (connections .entry))) ⌝ }
     ensures { λ _. ⌜ now (parents .exit) ≡ parentsBy (judgeTables (now (nodes .entry)) (now (rules .entry)) (now (connections .entry))) ⌝ }
 {
-    let a = forest::judge_nodes(nodes);
+    let a = nodes::judge_nodes(nodes);
     if let Judgement::Faulty(number) = a {
         return Judgement::Faulty(number);
     }
@@ -63,10 +64,10 @@ fn measure(
     ensures { λ r. ⌜ Measures (now (nodes .entry)) (now (connections .entry)) (left .0) (right .0) r ⌝ }
 {
     let n = nodes.len() / NODE_WORDS;
-    if n <= terms::wide(left.0) {
+    if n <= model::wide(left.0) {
         return Measured::Unmeasured(8);
     }
-    if n <= terms::wide(right.0) {
+    if n <= model::wide(right.0) {
         return Measured::Unmeasured(8);
     }
     let count = connections.len() / CONNECTION_WORDS;

@@ -10,9 +10,9 @@ use borrow.Author.Tests.{eqb-true}
 use lib.Dec.{eqb}
 use Rattle.model.specs.declared.Connection.{Connection}
 use Rattle.model.specs.Forest.{root}
-use Rattle.forest.specs.Hangs.{nextOf, depth, Forest}
-use Rattle.forest.proofs.Places.{high, low, place}
-use Rattle.forest.proofs.Ways.{climbBy, Lowest, root-climb}
+use Rattle.paths.specs.Hangs.{nextOf, depth, Forest}
+use Rattle.paths.proofs.Places.{high, low, place}
+use Rattle.paths.proofs.Ways.{climbBy, Lowest, root-climb}
 use Rattle.rust.specs.Paths.{contains, commonAncestor}
 use Rattle.rust.proofs.Trails.{trail, Passed, passed, not-passed, climb-next, lowest-any}
 

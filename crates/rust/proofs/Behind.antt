@@ -6,8 +6,8 @@ use mathlib.Core.List.{List, _∷_}
 use Rattle.model.specs.declared.Connection.{Connection}
 use Rattle.model.specs.Node.{Node}
 use Rattle.model.specs.Forest.{root, walk}
-use Rattle.forest.specs.Hangs.{Accepted}
-use Rattle.forest.proofs.Laws.{root-old, walk-old}
+use Rattle.paths.specs.Hangs.{Accepted}
+use Rattle.paths.proofs.Laws.{root-old, walk-old}
 
 pub data Behind (os : List Connection) : List Connection → Type 0 where
   all : Behind os os

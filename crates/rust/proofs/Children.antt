@@ -9,10 +9,10 @@ use Rattle.model.specs.Node.{Node, row, termOf}
 use Rattle.model.specs.Forest.{root}
 use Rattle.model.specs.Flat.{within, runs}
 use Rattle.terms.proofs.Rows.{join-assoc, join-none, count-join}
-use Rattle.forest.specs.Hangs.{Paired}
-use Rattle.writer.specs.Ends.{first, lastOr, last, Leads}
-use Rattle.writer.proofs.NodeTerms.{term-strip}
-use Rattle.writer.proofs.Within.{last-join}
+use Rattle.paths.specs.Hangs.{Paired}
+use Rattle.flat.specs.Ends.{first, lastOr, last, Leads}
+use Rattle.flat.proofs.NodeTerms.{term-strip}
+use Rattle.flat.proofs.Within.{last-join}
 use Rattle.rust.specs.Flatten.{front, rest, reps, setAt, setChild, childRuns, childProofs}
 use Rattle.rust.proofs.Merged.{front-last}
 

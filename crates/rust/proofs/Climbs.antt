@@ -8,10 +8,10 @@ use native.Mathlib.Nat.{add-assoc, zero-add, add-zero}
 use Rattle.model.specs.declared.Connection.{Connection}
 use Rattle.model.specs.Node.{Node}
 use Rattle.model.specs.Forest.{cur, nxt, root, walk, costBy, Parent, top, below, parentOf}
-use Rattle.forest.specs.Hangs.{nextOf, depth, Forest}
-use Rattle.forest.proofs.Laws.{depth-top, depth-below}
-use Rattle.forest.proofs.Places.{next-below}
-use Rattle.forest.proofs.Ways.{climbBy, hop, hop-low, ups, downs, meets}
+use Rattle.paths.specs.Hangs.{nextOf, depth, Forest}
+use Rattle.paths.proofs.Laws.{depth-top, depth-below}
+use Rattle.paths.proofs.Places.{next-below}
+use Rattle.paths.proofs.Ways.{climbBy, hop, hop-low, ups, downs, meets}
 use Rattle.rust.specs.Paths.{commonAncestor}
 use Rattle.rust.specs.Distances.{parentDistance, pastAncestor}
 use Rattle.rust.proofs.Ancestor.{ancestor}

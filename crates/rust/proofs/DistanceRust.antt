@@ -11,11 +11,11 @@ use Rattle.model.specs.declared.Justification.{Justification}
 use Rattle.model.specs.declared.Justification.the-variants.{Rule as byRule, Congruence}
 use Rattle.model.specs.Node.{Node, kidsOf}
 use Rattle.model.specs.Forest.{cur, nxt, root, dist, costBy, sumPairs}
-use Rattle.forest.specs.Hangs.{Accepted, Sound, Paired}
-use Rattle.forest.proofs.Joined.{dist-self}
-use Rattle.forest.proofs.Bound.{depth-le}
-use Rattle.forest.proofs.Accept.{accepted-forest, sound, kin}
-use Rattle.forest.proofs.Related.{Steps, related}
+use Rattle.paths.specs.Hangs.{Accepted, Sound, Paired}
+use Rattle.paths.proofs.Joined.{dist-self}
+use Rattle.paths.proofs.Bound.{depth-le}
+use Rattle.paths.proofs.Accept.{accepted-forest, sound, kin}
+use Rattle.paths.proofs.Related.{Steps, related}
 use Rattle.rust.specs.Distances.{distanceBetween}
 use Rattle.rust.proofs.Behind.{Behind, all, older, accepted-behind, root-behind, walk-behind}
 use Rattle.rust.proofs.Climbs.{priced, past-ancestor}

@@ -7,7 +7,6 @@ use native.Mathlib.Omega.{arith}
 use lib.ListN.{length}
 use Rattle.model.specs.declared.Connection.{Connection}
 use Rattle.model.specs.declared.Direction.{Direction}
-use Rattle.model.specs.declared.Direction.the-variants.{Forward, Backward}
 use Rattle.model.specs.declared.Justification.{Justification}
 use Rattle.model.specs.declared.Justification.the-variants.{Rule as byRule, Congruence}
 use Rattle.model.specs.Term.{unmarked, Terms, noTerms, tree, join, put, one, strip}
@@ -16,18 +15,18 @@ use Rattle.model.specs.Node.{Node, opOf, kidsOf, row, termOf}
 use Rattle.model.specs.Forest.{cur, nxt, root, Hop, path}
 use Rattle.model.specs.Flat.{markFor, runs, appended, laterStep, later, flatProof}
 use Rattle.terms.proofs.Rows.{join-assoc, join-none}
-use Rattle.forest.specs.Hangs.{Accepted}
-use Rattle.forest.proofs.Bound.{depth-le}
-use Rattle.forest.proofs.Accept.{accepted-forest, accepted-loose}
-use Rattle.forest.proofs.Climbed.{hopOf}
-use Rattle.writer.specs.Ends.{first, lastOr, last, Leads}
-use Rattle.writer.specs.Nodes.{AcceptedNodes}
-use Rattle.writer.proofs.NodeTerms.{term-is, term-strip, term-unmarked}
-use Rattle.writer.proofs.Marked.{no-mark}
-use Rattle.writer.proofs.Within.{last-join, last-alike, leads-join}
-use Rattle.writer.proofs.Twins.{Twins, twins, twins-back}
-use Rattle.writer.proofs.Walked.{walked}
-use Rattle.writer.proofs.Way.{way, way-up, way-down}
+use Rattle.paths.specs.Hangs.{Accepted}
+use Rattle.paths.proofs.Bound.{depth-le}
+use Rattle.paths.proofs.Accept.{accepted-forest, accepted-loose}
+use Rattle.paths.proofs.Climbed.{hopOf}
+use Rattle.flat.specs.Ends.{first, lastOr, last, Leads}
+use Rattle.flat.specs.Nodes.{AcceptedNodes}
+use Rattle.flat.proofs.NodeTerms.{term-is, term-strip, term-unmarked}
+use Rattle.flat.proofs.Marked.{no-mark}
+use Rattle.flat.proofs.Within.{last-join, last-alike, leads-join}
+use Rattle.flat.proofs.Twins.{Twins, twins, twins-back}
+use Rattle.flat.proofs.Walked.{walked}
+use Rattle.flat.proofs.Way.{way, way-up, way-down}
 use Rattle.rust.specs.Flatten.{childRuns, childProofs, ofCongruence, extend, flattened, explainAdjacent, adjacent, hopsOf, explainEnodes}
 use Rattle.rust.proofs.Behind.{Behind, all, older, accepted-behind, root-behind, walk-behind}
 use Rattle.rust.proofs.PathRust.{path-rust}
@@ -35,10 +34,7 @@ use Rattle.rust.proofs.Merged.{merge, append}
 use Rattle.rust.proofs.Children.{reps-row, children}
 
 mark-seen : (n : ℕ) (d : Direction) (up : Bool) → isMark (markFor n d up) ≡ true
-mark-seen n Forward true = refl
-mark-seen n Forward false = refl
-mark-seen n Backward true = refl
-mark-seen n Backward false = refl
+mark-seen n d up = refl
 
 module _ (ns : List Node) (nodes : AcceptedNodes ns) where
   -- one connection, if the children's flat proofs are known

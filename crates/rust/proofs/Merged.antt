@@ -3,16 +3,15 @@ use mathlib.Core.Path.{_≡_, refl, sym, ap, _∙_}
 use mathlib.Core.Bool.{true, false}
 use Prim.Native.Nat.{ℕ}
 use native.Mathlib.Omega.{arith}
-use Rattle.model.specs.Term.{Mark, unmarked, forward, backward, Terms, noTerms, tree, count, join, strip}
+use Rattle.model.specs.Term.{Mark, unmarked, marked, Terms, noTerms, tree, count, join, strip}
 use Rattle.model.specs.Step.{someMark, isMark}
 use Rattle.terms.proofs.Rows.{join-assoc}
-use Rattle.writer.specs.Ends.{first, lastOr, last}
+use Rattle.flat.specs.Ends.{first, lastOr, last}
 use Rattle.rust.specs.Flatten.{combineMark, combine, front, extend}
 
 combine-mark : (m : Mark) → combineMark unmarked m ≡ m
 combine-mark unmarked = refl
-combine-mark (forward n) = refl
-combine-mark (backward n) = refl
+combine-mark (marked d n) = refl
 
 -- the marks of a term put on the same term without marks
 combine-strip : (t : Terms) → combine (strip t) t ≡ t

@@ -8,10 +8,10 @@ use native.Mathlib.Omega.{arith}
 use borrow.Author.Tests.{eq-eqb, ne-eqb}
 use Rattle.model.specs.declared.Connection.{Connection}
 use Rattle.model.specs.Forest.{root, Hop, path}
-use Rattle.forest.specs.Hangs.{nextOf, depth, Forest}
-use Rattle.forest.proofs.Places.{high, low, place}
-use Rattle.forest.proofs.Ways.{climbBy, depth-climb, hop-low, ups, downs, meets}
-use Rattle.forest.proofs.Climbed.{hopOf}
+use Rattle.paths.specs.Hangs.{nextOf, depth, Forest}
+use Rattle.paths.proofs.Places.{high, low, place}
+use Rattle.paths.proofs.Ways.{climbBy, depth-climb, hop-low, ups, downs, meets}
+use Rattle.paths.proofs.Climbed.{hopOf}
 use Rattle.rust.specs.Paths.{push, getConnections, both, pathTo, rustPath}
 use Rattle.rust.proofs.Ancestor.{ancestor, no-ancestor}
 

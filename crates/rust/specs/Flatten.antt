@@ -8,19 +8,18 @@ use mathlib.Core.Option.{Option, none, some}
 use Rattle.model.specs.declared.Connection.{Connection}
 use Rattle.model.specs.declared.Justification.{Justification}
 use Rattle.model.specs.declared.Justification.the-variants.{Rule as byRule, Congruence}
-use Rattle.model.specs.Term.{Mark, unmarked, forward, backward, Terms, noTerms, tree, count, join, one, strip}
+use Rattle.model.specs.Term.{Mark, unmarked, marked, Terms, noTerms, tree, count, join, one, strip}
 use Rattle.model.specs.Step.{someMark, isMark}
 use Rattle.model.specs.Node.{Node, opOf, kidsOf, termOf}
 use Rattle.model.specs.Forest.{cur, nxt, Hop}
 use Rattle.model.specs.Flat.{markFor, markedTerm, within}
-use Rattle.writer.specs.Ends.{first, last}
+use Rattle.flat.specs.Ends.{first, last}
 use Rattle.rust.specs.Paths.{rustPath}
 
 -- fn combine_rewrites: the marks of another term put on this one, children paired to the end of the shorter list
 abbrev pub combineMark : Mark → Mark → Mark
 combineMark m unmarked = m
-combineMark m (forward n) = forward n
-combineMark m (backward n) = backward n
+combineMark m (marked d n) = marked d n
 
 unfoldable pub combine : Terms → Terms → Terms
 combine noTerms g = noTerms

@@ -8,7 +8,7 @@ use mathlib.Core.Option.{Option, none, some}
 use lib.Dec.{eqb}
 use Rattle.model.specs.declared.Connection.{Connection}
 use Rattle.model.specs.Forest.{nxt, Hop, top, below, parentOf}
-use Rattle.forest.specs.Hangs.{nextOf}
+use Rattle.paths.specs.Hangs.{nextOf}
 
 -- a `HashSet` of nodes
 unfoldable pub contains : List ℕ → ℕ → Bool

@@ -5,7 +5,7 @@ use mathlib.Core.Path.{refl, sym, ap, _∙_}
 use Rattle.model.specs.Judged.{Judged}
 use Rattle.model.specs.Query.{Tables}
 use Rattle.model.specs.Tables.{judgeTables, verdictBy}
-use Rattle.forest.proofs.Entries.{Good, taken-good}
+use Rattle.laws.proofs.Judging.{Good, taken-good}
 use Rattle.explanation.proofs.Whole.{whole, refused}
 use Rattle.explanation.proofs.check.Statement.{statement}
 use Rattle.explanation.proofs.check.Tie as tie

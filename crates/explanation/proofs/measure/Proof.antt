@@ -13,8 +13,9 @@ use Rattle.model.specs.Forest.{root, joined, dist}
 use Rattle.model.specs.Query.{Tables}
 use Rattle.model.specs.Tables.{nodeWords, connectionWords}
 use Rattle.model.specs.Limits.{distanceLimit}
-use Rattle.forest.specs.Tables.{firstNodes, oldest}
-use Rattle.forest.proofs.Tables.{length-nodes}
+use Rattle.entries.specs.Nodes.{firstNodes}
+use Rattle.entries.specs.Connections.{oldest}
+use Rattle.entries.proofs.Nodes.{length-nodes}
 use Rattle.explanation.proofs.Measures.{no-left, no-right, apart, long, near}
 use Rattle.explanation.proofs.measure.Statement.{statement}
 use Rattle.explanation.proofs.measure.Tie as tie
