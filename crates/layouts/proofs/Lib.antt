@@ -1,3 +1,4 @@
 pub mod Entries
 pub mod Rules
 pub mod Whole
+pub mod Back
