@@ -1,18 +1,16 @@
 -- AN ENTRY IN WORDS AND IN ITS FRAME IS THE SAME ENTRY: what is read of the bytes is what is read of the words, refused ones too.
 use Prim.Native.Nat.{ℕ, zero, suc, _+_, _*_}
 use mathlib.Core.Bool.{Bool, true, false, _&&_}
-use mathlib.Core.List.{List, [], _∷_, _++_, append-assoc, append-nil}
-use mathlib.Core.Option.{Option, none, some}
-use mathlib.Core.Path.{_≡_, refl, sym, ap, _∙_}
+use mathlib.Core.List.{List, [], _∷_}
+use mathlib.Core.Option.{some}
+use mathlib.Core.Path.{_≡_, refl, ap}
 use native.Mathlib.Nat.{div-add-mod'}
-use native.Mathlib.Omega.{arith}
 use borrow.Author.Tests.{eq-eqb}
-use lib.Dec.{leb, eqb}
+use lib.Dec.{leb}
 use lib.ListN.{length, getD}
-use Rattle.model.specs.Limits.{childLimit, itemLimit}
-use Rattle.model.specs.Node.{Node}
+use Rattle.model.specs.Limits.{childLimit}
 use Rattle.model.specs.Tables.{childrenAt, nodeWords, connectionWords, nextAt, whyAt, byRuleAt, forwardAt, onlyIf, wordsFrom, nodeAt, nodeEntry, whyOf, connectionOf, connectionEntry}
-use Rattle.model.specs.Frame.{two, twos, twoFront, nodeBy, nodeFrame, connectionFrame}
+use Rattle.model.specs.Frame.{two, twos, nodeFrame, connectionFrame}
 use Rattle.layouts.specs.Bytes.{high, low, pairs, bytesIf, nodeBytes, connectionBytes}
 
 -- two bytes are their word

@@ -1,19 +1,18 @@
 -- A RULE IN WORDS AND IN ITS FRAME IS THE SAME RULE. A frame does not say how many items a side has: it is read pattern by pattern, so
 -- that an entry has a frame where its left items are one whole pattern.
-use Prim.Native.Nat.{ℕ, zero, suc, _+_, _*_, _≤_}
+use Prim.Native.Nat.{ℕ, zero, suc, _+_, _*_}
 use mathlib.Core.Bool.{Bool, true, false, _&&_}
 use mathlib.Core.List.{List, [], _∷_, _++_, append-assoc, append-nil}
 use mathlib.Core.Option.{Option, none, some}
 use mathlib.Core.Path.{_≡_, refl, sym, ap, _∙_}
-use native.Mathlib.Omega.{arith}
-use borrow.Author.Tests.{le-leb, lt-leb, leb-false, eq-eqb}
+use borrow.Author.Tests.{eq-eqb}
 use lib.Dec.{leb, eqb}
 use lib.ListN.{length, getD}
 use Rattle.model.specs.Limits.{itemLimit}
-use Rattle.model.specs.Pattern.{Item, variable, operator, Patterns, countP, items, readP}
-use Rattle.model.specs.Rule.{Rule, sideIf, onePattern, side, ruleOf}
+use Rattle.model.specs.Pattern.{Item, operator, Patterns, countP, items, readP}
+use Rattle.model.specs.Rule.{sideIf, onePattern, side, ruleOf}
 use Rattle.model.specs.Tables.{itemWords, leftAt, rightAt, ruleWords, onlyIf, itemOf, itemFront, itemsFrom, sideBy, sideAt, ruleEntry}
-use Rattle.model.specs.Frame.{two, frameItems, ruleItems, ruleFrame}
+use Rattle.model.specs.Frame.{frameItems, ruleItems, ruleFrame}
 use Rattle.rule_table.proofs.Patterns.{scan, isRow, scan-read, read-items, items-read}
 use Rattle.rule_table.proofs.Sides.{SideIs, items-length, side-is}
 use Rattle.rule_table.proofs.Frames.{frame-sides}

@@ -3,12 +3,11 @@
 use Prim.Native.Nat.{ℕ, zero, suc, _+_, _≤_}
 use native.Mathlib.Nat.{add-zero, add-suc, suc-add}
 use native.Mathlib.Omega.{arith}
-use mathlib.Core.Bool.{Bool, true, false, _||_}
+use mathlib.Core.Bool.{true}
 use mathlib.Core.List.{List, [], _∷_, _++_}
-use mathlib.Core.Option.{Option, none, some}
+use mathlib.Core.Option.{Option, some}
 use mathlib.Core.Path.{_≡_, refl, sym, ap, _∙_}
 use borrow.Author.Tests.{le-leb}
-use lib.Dec.{leb}
 use lib.ListN.{length}
 use Rattle.model.specs.declared.Connection.{Connection}
 use Rattle.model.specs.Judged.{Judged, good, bad}
@@ -18,7 +17,7 @@ use Rattle.model.specs.Connect.{addConnection}
 use Rattle.model.specs.Query.{Tables}
 use Rattle.model.specs.Tables.{nodeWords, ruleWords, connectionWords, entriesIn, nodeEntry, ruleEntry, connectionEntry, andAdd, entries, nodeTable, ruleTable, connectionTable, withNodes, withRules, withConnections, judgeTables}
 use Rattle.model.specs.Frame.{nodeKind, ruleKind, connectionKind, frameOf}
-use Rattle.model.specs.Run.{State, start, Turn, go, stop, nodeTurn, ruleTurn, connectionTurn, frameTurn, inOrder, turnIf, lineTurn}
+use Rattle.model.specs.Run.{State, start, Turn, go, stop, nodeTurn, ruleTurn, connectionTurn, frameTurn, inOrder, lineTurn}
 use Rattle.layouts.specs.Bytes.{nodeBytes, ruleBytes, connectionBytes}
 use Rattle.layouts.specs.Frames.{linesTo, framesOf, turns, tablesAfter}
 use Rattle.layouts.proofs.Entries.{node-frame, connection-frame}

@@ -1,7 +1,7 @@
 -- The entries of tables in words as the bytes of their frames, behind the kind's byte.
 -- An entry that is cut has no frame, and neither has a rule whose left items are no whole pattern: they are given no bytes, and such a
 -- frame is refused like them.
-use Prim.Native.Nat.{ℕ, zero, suc, _+_, _*_, _/_, _%_}
+use Prim.Native.Nat.{ℕ, zero, suc, _+_, _*_, _/_, _%_, _<_}
 use mathlib.Core.Bool.{Bool, true, false, _&&_}
 use mathlib.Core.List.{List, [], _∷_, _++_}
 use mathlib.Core.Option.{Option, none, some}
@@ -68,3 +68,8 @@ connectionBytes ws i =
     let r = getD ws (at + byRuleAt) 0 in
     bytesIf (leb (at + connectionWords) (length ws))
     (high c ∷ low c ∷ high n ∷ low n ∷ getD ws (at + whyAt) 0 ∷ high r ∷ low r ∷ getD ws (at + forwardAt) 0 ∷ [])
+
+-- every one is a byte
+unfoldable pub AreBytes : List ℕ → Type 0
+AreBytes [] = Unit {0}
+AreBytes (b ∷ bs) = (b < 256) × AreBytes bs
