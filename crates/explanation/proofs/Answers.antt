@@ -173,3 +173,17 @@ module _ (t : Tables) (ok : AcceptedTables t) (area l r : ℕ) where
       pick (by-10 k j d) e = absurd (omega arith)
       pick (by-11 k j d o) e = (k, j, d, o)
       pick (fit a) e = absurd (omega arith)
+
+  -- and an answer is given only where none of them holds
+  pub answered : (d w : ℕ) → answer t area l r ≡ Written d w → Asked t area l r
+  answered d w e = by (cases t area l r)
+    where
+      never : (n : ℕ) → answer t area l r ≡ Refused n → ⊥
+      never n f = let z : _≡_ {A = ℕ} 0 1 = cc in omega arith
+
+      by : Case t area l r → Asked t area l r
+      by (by-8 u) = absurd (never 8 (is-8 t l r area u))
+      by (by-9 k a) = absurd (never 9 (is-9 t l r k area a))
+      by (by-10 k j d) = absurd (never 10 (is-10 t l r k j area d))
+      by (by-11 k j d o) = absurd (never 11 (is-11 t l r k j ok d area o))
+      by (fit a) = a
