@@ -8,7 +8,7 @@ use native.Mathlib.Nat.{add-assoc, zero-add, add-zero}
 use native.Mathlib.Omega.{arith}
 use Rattle.model.specs.declared.Connection.{Connection}
 use Rattle.model.specs.declared.NodeNo.{NodeNo}
-use Rattle.model.specs.Forest.{cur, nxt, root, joined, Parent, top, below, parentOf}
+use Rattle.model.specs.Forest.{cur, root, joined, Parent, top, below, parentOf}
 use Rattle.paths.specs.Hangs.{nextOf, depth, Forest}
 use Rattle.paths.specs.Meet.{topOf, meetOf}
 use Rattle.paths.specs.declared.Meeting.the-variants.{At, Nowhere}

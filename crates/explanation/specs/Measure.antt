@@ -3,7 +3,6 @@
 use Prim.Native.Nat.{ℕ}
 use mathlib.Core.List.{List}
 use mathlib.Core.Path.{_≡_}
-use lib.ListN.{length}
 use Rattle.model.specs.declared.Measured.{Measured}
 use Rattle.model.specs.Query.{Tables, measure}
 use Rattle.entries.specs.Nodes.{nodesOf}

@@ -1,12 +1,12 @@
 -- One step of a climb by the rows: where it leads, and how deep that is.
 use Prim.Native.Nat.{ℕ, zero, suc, _+_, _-_, _*_, _<_, _≤_}
 use mathlib.Core.List.{List, [], _∷_}
-use mathlib.Core.Logic.{_⊎_, inl, inr, ⊎-elim}
+use mathlib.Core.Logic.{_⊎_, inr, ⊎-elim}
 use mathlib.Core.Path.{_∙_, _≡_, ap, refl, sym}
 use native.Mathlib.Decide.{ℕ-discrete}
 use native.Mathlib.Omega.{arith}
-use lib.ListN.{length, set}
-use Rattle.model.specs.Forest.{below, cur, nxt, parentOf, top}
+use lib.ListN.{set}
+use Rattle.model.specs.Forest.{below, cur, parentOf}
 use Rattle.model.specs.Limits.{nodeLimit}
 use Rattle.model.specs.declared.Connection.{Connection}
 use Rattle.paths.proofs.Bound.{depth-le}
@@ -20,7 +20,7 @@ use Rattle.paths.specs.declared.Meeting.the-variants.{Nowhere}
 use Rattle.entries.specs.Connections.{connectionIn, oldest}
 use Rattle.forest.specs.Rows.{Climbs, Rooted, ageIn, ageOf, depthIn, depthWord, nextIn, rowWords}
 use Rattle.forest.specs.Filling.{DepthsKnown, Settled, Sounded, Tied}
-use Rattle.forest.proofs.Ages.{age-new, age-old, age-top}
+use Rattle.forest.proofs.Ages.{age-old, age-top}
 use Rattle.forest.proofs.Filled.{depth-here, right-depth, still-known, tied-depth}
 
 record Parented (cs : List Connection) (n : ℕ) : Type 0 where

@@ -16,7 +16,7 @@ use Rattle.paths.specs.Hangs.{depth, nextOf}
 use Rattle.entries.proofs.Connections.{length-oldest}
 use Rattle.entries.specs.Connections.{connectionIn, oldest}
 use Rattle.forest.specs.Filling.{Tied, DepthsUnknown}
-use Rattle.forest.specs.Rows.{ageIn, ageOf, costIn, depthIn, nextIn, ageWord, costWord, depthWord, nextWord, rowOf, rowWords, rowsOf, tableWords}
+use Rattle.forest.specs.Rows.{ageIn, ageOf, depthIn, nextIn, ageWord, costWord, depthWord, nextWord, rowOf, rowWords, rowsOf, tableWords}
 use Rattle.forest.proofs.Ages.{age-new, age-old}
 
 next-new : (c : Connection) (cs : List Connection) → nextOf (c ∷ cs) (cur c) ≡ nxt c

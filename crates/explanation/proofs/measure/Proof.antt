@@ -1,17 +1,16 @@
 -- `explanation::measure` meets its contract: 8, 9, 10, each where it is the first to hold.
 -- Assumes nothing.
 use borrow.Author.Needs.{needs}
-use borrow.Author.Tests.{eqb-true, not-true, not-false}
+use borrow.Author.Tests.{not-true, not-false}
 use native.Mathlib.Omega.{arith}
 use Prim.Native.Nat.{ℕ, _/_, _≤_, _<_}
 use mathlib.Core.Bool.{true}
 use mathlib.Core.List.{List}
 use mathlib.Core.Path.{_≡_, sym, ap, subst, _∙_}
 use lib.ListN.{length, length-replicate}
-use Rattle.model.specs.declared.Connection.{Connection}
 use Rattle.model.specs.declared.Measured.the-variants.{Distance}
 use Rattle.model.specs.Limits.{distanceLimit}
-use Rattle.model.specs.Forest.{root, joined, dist}
+use Rattle.model.specs.Forest.{joined, dist}
 use Rattle.model.specs.Query.{Tables}
 use Rattle.model.specs.Tables.{nodeWords}
 use Rattle.entries.specs.Nodes.{nodesOf}

@@ -2,7 +2,7 @@
 use native.Mathlib.Omega.{arith}
 use Prim.Native.Nat.{ℕ, _*_, _+_, _-_, _/_, _<_, _≤_}
 use mathlib.Core.List.{List, []}
-use mathlib.Core.Path.{_≡_, ap, subst, sym, _∙_}
+use mathlib.Core.Path.{_≡_, ap, _∙_}
 use lib.ListN.{length, set}
 use Rattle.model.specs.Limits.{nodeLimit}
 use Rattle.model.specs.Forest.{cur, nxt}

@@ -1,6 +1,6 @@
 -- `forest::settle_all` meets its contract: the depths of the nodes passed are there, and those that are there are right.
 use native.Mathlib.Omega.{arith}
-use Prim.Native.Nat.{ℕ, _-_, _<_, _≤_}
+use Prim.Native.Nat.{ℕ, _-_, _≤_}
 use mathlib.Core.List.{List}
 use mathlib.Core.Path.{_≡_}
 use Rattle.model.specs.Limits.{nodeLimit}
