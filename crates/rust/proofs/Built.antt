@@ -1,7 +1,7 @@
 -- The Rust's forest of an accepted table: every `union` succeeds, and what each node and the memo hold then.
 use Prim.Native.Nat.{ℕ, zero, suc, _<_}
 use mathlib.Core.Path.{_≡_, refl, sym, ap, _∙_}
-use mathlib.Core.Bool.{Bool, true, false, not, cond}
+use mathlib.Core.Bool.{cond}
 use mathlib.Core.List.{List, [], _∷_, _++_}
 use mathlib.Core.Option.{Option, none, some}
 use native.Mathlib.Omega.{arith}
@@ -17,14 +17,8 @@ use Rattle.forest.proofs.Accept.{sound}
 use Rattle.forest.proofs.Laws.{parent-new, parent-old}
 use Rattle.rust.specs.Panics.{_>>=_, counted}
 use Rattle.rust.specs.Explain.{Connection, ExplainNode, Memoed, Explain, alone, makeLeader, pushNeighbor, setParent, remember, union, justified, goesForward, explainOf}
+use Rattle.rust.specs.Read.{up, down}
 use Rattle.rust.proofs.Vectors.{on, set-same, set-other, counted-length, counted-at}
-
--- a table's connection as its current node holds it, and as its next node does
-abbrev pub up : TableConnection → Connection
-up c = record { next = nxt c; current = cur c; justification = justified (c .why); forward = goesForward (c .why) }
-
-abbrev pub down : TableConnection → Connection
-down c = record { next = cur c; current = nxt c; justification = justified (c .why); forward = not (goesForward (c .why)) }
 
 -- what a node holds
 abbrev parentBy : Parent → ℕ → Connection
@@ -130,16 +124,16 @@ module _ (ns : List Node) (c : TableConnection) (cs : List TableConnection) (e :
   unfolding union
   hung-union rounds = on _ (leads rounds) ∙ on _ first ∙ on _ second ∙ on _ third
 
-pub built : (rounds : ℕ) (ns : List Node) (cs : List TableConnection) → Accepted ns cs → Built (suc rounds) ns cs
+built-more : (rounds : ℕ) (ns : List Node) (cs : List TableConnection) → Accepted ns cs → Built (suc rounds) ns cs
 unfolding explainOf
-built rounds ns [] a =
+built-more rounds ns [] a =
     record {
       explain = record { explainfind = counted alone (length ns); memo = [] };
       is = refl;
       holds = record { size = counted-length alone (length ns); at = λ n h. counted-at alone (length ns) n h ∙ alone-in n; memo = refl };
     }
-built rounds ns (c ∷ cs) a =
-    let b = built rounds ns cs (a .1) in
+built-more rounds ns (c ∷ cs) a =
+    let b = built-more rounds ns cs (a .1) in
     let s = sound (a .0) in
     record {
       explain = record { explainfind = hung ns c cs (b .explain) s (b .holds); memo = remember (justified (c .why)) (cur c) (nxt c) (b .explain .memo) };
@@ -150,3 +144,7 @@ built rounds ns (c ∷ cs) a =
         memo = ap (remember (justified (c .why)) (cur c) (nxt c)) (b .holds .memo);
       };
     }
+
+pub built : (rounds : ℕ) (ns : List Node) (cs : List TableConnection) → Accepted ns cs → 0 < rounds → Built rounds ns cs
+built zero ns cs a h = absurd (omega arith)
+built (suc rounds) ns cs a h = built-more rounds ns cs a

@@ -22,7 +22,8 @@ use Rattle.rust.specs.Explain.{Explain, Justification}
 use Rattle.rust.specs.Paths.{parentConnection, differ}
 use Rattle.rust.specs.Distances.{Climbed, Found, treeDepth, connectionDistance, setClimbed, past, calculateParentDistance}
 use Rattle.rust.proofs.Vectors.{on}
-use Rattle.rust.proofs.Built.{Holds, parentIn, up}
+use Rattle.rust.specs.Read.{up}
+use Rattle.rust.proofs.Built.{Holds, parentIn}
 use Rattle.rust.proofs.Inside.{parent-is, parent-next, parent-up, next-inside, climb-inside}
 use Rattle.rust.proofs.Heights.{climb-add, priced, costUp, cost-add, over, over-same, over-other, entry, Memo, raised, Full}
 

@@ -25,7 +25,8 @@ use Rattle.rust.specs.Panics.{_>>=_}
 use Rattle.rust.specs.Explain.{Explain, justified}
 use Rattle.rust.specs.Distances.{Climbed, Found, unclimbed, treeDepth, childDistances, connectionDistance, calculateParentDistance, distanceBetween}
 use Rattle.rust.proofs.Vectors.{on, off, elem-default, counted-length, counted-at}
-use Rattle.rust.proofs.Built.{Holds, up}
+use Rattle.rust.specs.Read.{up}
+use Rattle.rust.proofs.Built.{Holds}
 use Rattle.rust.proofs.Behind.{Behind, all, older, behind-more, behind-length, accepted-behind, root-behind, walk-behind, forest-behind, parent-behind, climb-behind}
 use Rattle.rust.proofs.Inside.{Hung, hung-by, climb-inside, Kids, kids-inside}
 use Rattle.rust.proofs.Olders.{left-older}

@@ -1,5 +1,5 @@
 -- A climb from a node of the table stays in the table, and follows the parent connections that the Rust holds.
-use Prim.Native.Nat.{ℕ, zero, suc, _<_}
+use Prim.Native.Nat.{ℕ, zero, suc, _≤_, _<_}
 use mathlib.Core.Path.{_≡_, refl, sym, ap, _∙_, subst}
 use mathlib.Core.Bool.{true, and-eq-true-iff}
 use mathlib.Core.List.{List, [], _∷_}
@@ -21,7 +21,8 @@ use Rattle.rust.specs.Explain.{Connection, Explain, alone}
 use Rattle.rust.specs.Paths.{parentConnection}
 use Rattle.rust.proofs.Vectors.{on}
 use Rattle.rust.proofs.Behind.{Behind, all, newer}
-use Rattle.rust.proofs.Built.{up, parentIn, Holds}
+use Rattle.rust.specs.Read.{up}
+use Rattle.rust.proofs.Built.{parentIn, Holds}
 
 -- a node's parent connection: it is the node's own, and was accepted after the older ones
 pub record Hung (ns : List Node) (cs : List TableConnection) (n : ℕ) (c : TableConnection) (o : List TableConnection) : Type 0 where
@@ -85,13 +86,20 @@ abbrev pub Kids : ℕ → List ℕ → Type 0
 Kids n [] = Unit {0}
 Kids n (x ∷ xs) = (x < n) × Kids n xs
 
-kids-below : (m n : ℕ) (xs : List ℕ) → m < n → allBelow m xs ≡ true → Kids n xs
+kids-below : (m : ℕ) (xs : List ℕ) → allBelow m xs ≡ true → Kids m xs
 unfolding allBelow
-kids-below m n [] h p = tt
-kids-below m n (x ∷ xs) h p =
+kids-below m [] p = tt
+kids-below m (x ∷ xs) p =
     let (a, b) = and-eq-true-iff _ _ .0 p in
-    let c = ltb-true x m a in
-    (omega arith, kids-below m n xs h b)
+    (ltb-true x m a, kids-below m xs b)
 
-pub kids-inside : (ns : List Node) → AcceptedNodes ns → (n : ℕ) → n < length ns → Kids (length ns) (kidsOf ns n)
-kids-inside ns a n h = kids-below n (length ns) (kidsOf ns n) h (a .below n)
+kids-more : (m n : ℕ) (xs : List ℕ) → m ≤ n → Kids m xs → Kids n xs
+kids-more m n [] h p = tt
+kids-more m n (x ∷ xs) h p = (omega (arith, p .0), kids-more m n xs h (p .1))
+
+module _ (ns : List Node) (a : AcceptedNodes ns) where
+  pub kids-lower : (n : ℕ) → Kids n (kidsOf ns n)
+  kids-lower n = kids-below n (kidsOf ns n) (a .below n)
+
+  pub kids-inside : (n : ℕ) → n < length ns → Kids (length ns) (kidsOf ns n)
+  kids-inside n h = kids-more n (length ns) (kidsOf ns n) (omega arith) (kids-lower n)

@@ -11,3 +11,9 @@ pub mod Heights
 pub mod Climbing
 pub mod Reaching
 pub mod DistanceRust
+pub mod Flats
+pub mod ChildLoop
+pub mod NodeTrees
+pub mod Adjacent
+pub mod FlatRust
+pub mod TheRust

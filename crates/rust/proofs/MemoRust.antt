@@ -22,8 +22,9 @@ use Rattle.rust.specs.Panics.{_>>=_}
 use Rattle.rust.specs.Explain.{Justification, rule, congruence, Connection, Memoed, Explain, memoed, remember, justified}
 use Rattle.rust.specs.Paths.{isRule, neighborTo, getNeighbor, Path, getPathUnoptimized, getPath, turnedFrom, walked}
 use Rattle.rust.proofs.Vectors.{on, off}
-use Rattle.rust.proofs.Built.{up, down, neighborsIn, memoIn, Holds}
-use Rattle.rust.proofs.PathRust.{asWalked, Walks, unoptimized, no-unoptimized}
+use Rattle.rust.specs.Read.{up, down, asWalked}
+use Rattle.rust.proofs.Built.{neighborsIn, memoIn, Holds}
+use Rattle.rust.proofs.PathRust.{Walks, unoptimized, no-unoptimized}
 
 -- a neighbor that is found stays the one found when more are pushed behind it
 found-front : (xs ys : List Connection) (l r : ℕ) → isRule (neighborTo xs l r .justification) ≡ true → neighborTo (xs ++ ys) l r ≡ neighborTo xs l r
@@ -190,7 +191,7 @@ unfolding memoed
 some-connection [] l r next p = absurd (none-ne-some next p)
 some-connection (c ∷ cs) l r next p = omega arith
 
--- THE RUST'S PATH, by the memo that `union` fills, is document 01's
+-- one round and more
 module _ {ns : List Node} {cs : List TableConnection} {ex : Explain} (acc : Accepted ns cs) (held : Holds ns cs ex) (rounds : ℕ) (enough : 2 * length cs < suc rounds)
     (l r : ℕ) (l-in : l < length ns) (r-in : r < length ns) where
   in-memo : {o : Option ℕ} → memoed (memoIn cs) l r ≡ o → memoed (ex .memo) l r ≡ o
@@ -219,9 +220,9 @@ module _ {ns : List Node} {cs : List TableConnection} {ex : Explain} (acc : Acce
   by none p n same = without n p same
   by (some next) p n same = by-memo next n p
 
-  pub optimized : root cs l ≡ root cs r → Walks cs l r (getPath (suc rounds) ex [] l r)
+  by-rounds : root cs l ≡ root cs r → Walks cs l r (getPath (suc rounds) ex [] l r)
   unfolding turnedFrom
-  optimized same =
+  by-rounds same =
       elim (ℕ-discrete l r) [
         | yes q ↦
             record {
@@ -232,10 +233,23 @@ module _ {ns : List Node} {cs : List TableConnection} {ex : Explain} (acc : Acce
         | no q ↦ by (memoed (memoIn cs) l r) refl q same
       ]
 
-  pub no-optimized : (root cs l ≡ root cs r → ⊥) → getPath (suc rounds) ex [] l r ≡ none
+  no-by-rounds : (root cs l ≡ root cs r → ⊥) → getPath (suc rounds) ex [] l r ≡ none
   unfolding getPath
-  no-optimized apart = go (memoed (memoIn cs) l r) refl
+  no-by-rounds apart = go (memoed (memoIn cs) l r) refl
     where
       go : (o : Option ℕ) → memoed (memoIn cs) l r ≡ o → getPath (suc rounds) ex [] l r ≡ none
       go none p = rw (ne-eqb l r (λ q. apart (ap (root cs) q)), in-memo p) (off _ (no-unoptimized acc held (suc rounds) enough l r l-in r-in apart))
       go (some next) p = absurd (apart (known ns cs acc l r next p .joins))
+
+-- THE RUST'S PATH, by the memo that `union` fills, is document 01's
+module _ {ns : List Node} {cs : List TableConnection} {ex : Explain} (acc : Accepted ns cs) (held : Holds ns cs ex) where
+  pub optimized : (rounds : ℕ) → 2 * length cs < rounds → (l r : ℕ) → l < length ns → r < length ns → root cs l ≡ root cs r →
+      Walks cs l r (getPath rounds ex [] l r)
+  optimized zero h l r l-in r-in same = absurd (omega arith)
+  optimized (suc rounds) h l r l-in r-in same = by-rounds acc held rounds h l r l-in r-in same
+
+  -- and the Rust panics where document 01 says 9
+  pub no-optimized : (rounds : ℕ) → 2 * length cs < rounds → (l r : ℕ) → l < length ns → r < length ns → (root cs l ≡ root cs r → ⊥) →
+      getPath rounds ex [] l r ≡ none
+  no-optimized zero h l r l-in r-in apart = absurd (omega arith)
+  no-optimized (suc rounds) h l r l-in r-in apart = no-by-rounds acc held rounds h l r l-in r-in apart

@@ -21,17 +21,10 @@ use Rattle.rust.specs.Panics.{_>>=_}
 use Rattle.rust.specs.Explain.{Connection, Explain}
 use Rattle.rust.specs.Paths.{connectionsFrom, getConnections, Path, getPathUnoptimized, turned, turnedFrom, walked}
 use Rattle.rust.proofs.Vectors.{on, off}
-use Rattle.rust.proofs.Built.{up, down, Holds}
+use Rattle.rust.specs.Read.{up, down, asWalked}
+use Rattle.rust.proofs.Built.{Holds}
 use Rattle.rust.proofs.Inside.{parent-up, next-inside}
 use Rattle.rust.proofs.Ancestor.{ancestor, no-ancestor}
-
--- a hop of document 01's path as a connection of the Rust: from the node that it leaves to the node that it comes to, its direction turned on the way down
-abbrev pub asWalkedBy : TableConnection → Bool → Connection
-asWalkedBy c true = up c
-asWalkedBy c false = down c
-
-abbrev pub asWalked : Hop → Connection
-asWalked h = asWalkedBy (h .conn) (h .up)
 
 -- the connections of a climb
 abbrev connOf : List TableConnection → (ℕ → ℕ → List Connection) → TableConnection → Bool → List Connection

@@ -20,7 +20,8 @@ use Rattle.forest.proofs.Ways.{climbBy, depth-climb, next-high}
 use Rattle.rust.specs.Explain.{Explain}
 use Rattle.rust.specs.Distances.{Climbed, Found, connectionDistance, setClimbed, past}
 use Rattle.rust.proofs.Vectors.{on}
-use Rattle.rust.proofs.Built.{Holds, up}
+use Rattle.rust.specs.Read.{up}
+use Rattle.rust.proofs.Built.{Holds}
 use Rattle.rust.proofs.Inside.{climb-inside}
 use Rattle.rust.proofs.Heights.{costUp, over, over-same, over-other, Memo, raised}
 use Rattle.rust.proofs.Climbing.{loop, ends, joins, stops, pays-on, onto, far, joined-memo, higher, top-depth, more-over, Reached, Pays}

@@ -30,24 +30,24 @@ unclimbed n = counted (λ i. record { node = i; cost = 0 }) n
 unfoldable pub treeDepth : ℕ → Explain → ℕ → Option ℕ
 treeDepth zero e node = none
 treeDepth (suc rounds) e node = do
-    c ← parentConnection e node
-    cond (eqb (c .next) node) (some 0) do
-      depth ← treeDepth rounds e (c .next)
-      some (depth + 1)
+  c ← parentConnection e node
+  cond (eqb (c .next) node) (some 0) do
+    depth ← treeDepth rounds e (c .next)
+    some (depth + 1)
 
 -- fn congruence_distance: `zip` of the children, the costs added up
 unfoldable pub childDistances : (List Climbed → ℕ → ℕ → Option Found) → List Climbed → List ℕ → List ℕ → ℕ → Option Found
 childDistances between memo [] rights cost = some (record { memo = memo; cost = cost })
 childDistances between memo (left ∷ lefts) [] cost = some (record { memo = memo; cost = cost })
 childDistances between memo (left ∷ lefts) (right ∷ rights) cost = do
-    f ← between memo left right
-    childDistances between (f .memo) lefts rights (cost + f .cost)
+  f ← between memo left right
+  childDistances between (f .memo) lefts rights (cost + f .cost)
 
 abbrev pub congruenceDistance : (List Climbed → ℕ → ℕ → Option Found) → List Node → List Climbed → ℕ → ℕ → Option Found
 congruenceDistance between ns memo current next = do
-    c ← getElem? ns current
-    n ← getElem? ns next
-    childDistances between memo (c .kids) (n .kids) 0
+  c ← getElem? ns current
+  n ← getElem? ns next
+  childDistances between memo (c .kids) (n .kids) 0
 
 -- fn connection_distance
 abbrev pub connectionDistance : (List Climbed → ℕ → ℕ → Option Found) → List Node → List Climbed → Justification → ℕ → ℕ → Option Found
@@ -62,25 +62,25 @@ setClimbed memo enode node cost = set memo enode (record { node = node; cost = c
 abbrev pub past : (ℕ → Option ℕ) → ℕ → Option ℕ → Option Bool
 past depths node none = some true
 past depths node (some ancestor) = do
-    a ← depths node
-    b ← depths ancestor
-    some (leb a b)
+  a ← depths node
+  b ← depths ancestor
+  some (leb a b)
 
 -- fn calculate_parent_distance
 unfoldable pub calculateParentDistance : (List Climbed → ℕ → ℕ → Option Found) → (ℕ → Option ℕ) → List Node → Explain → ℕ → List Climbed → ℕ → Option ℕ → Option Found
 unfolding childDistances
 calculateParentDistance between depths ns e zero memo enode ancestor = none
 calculateParentDistance between depths ns e (suc rounds) memo enode ancestor = do
-    here ← getElem? memo enode
-    c ← parentConnection e (here .node)
-    cond (eqb (c .next) (here .node)) (some (record { memo = memo; cost = here .cost })) do
-      above ← getElem? memo (here .node)
-      cond (differ (above .node) (here .node))
+  here ← getElem? memo enode
+  c ← parentConnection e (here .node)
+  cond (eqb (c .next) (here .node)) (some (record { memo = memo; cost = here .cost })) do
+    above ← getElem? memo (here .node)
+    cond (differ (above .node) (here .node))
         (calculateParentDistance between depths ns e rounds (setClimbed memo enode (above .node) (here .cost + above .cost)) enode ancestor) do
-        stop ← past depths (here .node) ancestor
-        cond stop (some (record { memo = memo; cost = here .cost })) do
-          f ← connectionDistance between ns memo (c .justification) (c .current) (c .next)
-          calculateParentDistance between depths ns e rounds (setClimbed (f .memo) (here .node) (c .next) (f .cost)) enode ancestor
+          stop ← past depths (here .node) ancestor
+          cond stop (some (record { memo = memo; cost = here .cost })) do
+            f ← connectionDistance between ns memo (c .justification) (c .current) (c .next)
+            calculateParentDistance between depths ns e rounds (setClimbed (f .memo) (here .node) (c .next) (f .cost)) enode ancestor
 
 -- fn distance_between: `b + c - (a << 1)`, which panics below 0
 unfoldable pub distanceBetween : ℕ → ℕ → List Node → Explain → List Climbed → ℕ → ℕ → Option Found

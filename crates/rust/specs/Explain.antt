@@ -49,23 +49,23 @@ alone n = record { neighbors = []; parent = record { next = n; current = n; just
 -- `self.explainfind[node].parent_connection = c` and `self.explainfind[node].neighbors.push(c)`
 abbrev pub setParent : List ExplainNode → ℕ → Connection → Option (List ExplainNode)
 setParent finds node c = do
-    x ← getElem? finds node
-    some (set finds node (record { neighbors = x .neighbors; parent = c }))
+  x ← getElem? finds node
+  some (set finds node (record { neighbors = x .neighbors; parent = c }))
 
 abbrev pub pushNeighbor : List ExplainNode → ℕ → Connection → Option (List ExplainNode)
 pushNeighbor finds node c = do
-    x ← getElem? finds node
-    some (set finds node (record { neighbors = x .neighbors ++ (c ∷ []); parent = x .parent }))
+  x ← getElem? finds node
+  some (set finds node (record { neighbors = x .neighbors ++ (c ∷ []); parent = x .parent }))
 
 -- fn make_leader: turns the parent connections above a node round
 unfoldable pub makeLeader : ℕ → List ExplainNode → ℕ → Option (List ExplainNode)
 makeLeader zero finds node = none
 makeLeader (suc rounds) finds node = do
-    x ← getElem? finds node
-    cond (eqb (x .parent .next) node) (some finds) do
-      led ← makeLeader rounds finds (x .parent .next)
-      y ← getElem? led node
-      setParent led (x .parent .next)
+  x ← getElem? finds node
+  cond (eqb (x .parent .next) node) (some finds) do
+    led ← makeLeader rounds finds (x .parent .next)
+    y ← getElem? led node
+    setParent led (x .parent .next)
         (record { next = node; current = x .parent .next; justification = y .parent .justification; forward = not (y .parent .forward) })
 
 -- `shortest_explanation_memo.get(&(left, right))`, the neighbor alone
@@ -110,5 +110,5 @@ unfoldable pub explainOf : ℕ → List Node → List TableConnection → Option
 unfolding counted union
 explainOf rounds ns [] = some (record { explainfind = counted alone (length ns); memo = [] })
 explainOf rounds ns (c ∷ cs) = do
-    e ← explainOf rounds ns cs
-    union rounds e (c .current .0) (c .next .0) (justified (c .why)) (goesForward (c .why))
+  e ← explainOf rounds ns cs
+  union rounds e (c .current .0) (c .next .0) (justified (c .why)) (goesForward (c .why))

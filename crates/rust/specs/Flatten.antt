@@ -87,11 +87,11 @@ unfoldable pub appended : Flats → Flats → Option Flats
 unfolding extend lastOf dropLast hasForward hasBackward combineRewrites
 appended noFlats explanation = some explanation
 appended (flatTerm o b f k s) explanation = do
-    first ← firstOf explanation
-    cond (hasForward first || hasBackward first) (some (extend (flatTerm o b f k s) explanation)) do
-      last ← lastOf (flatTerm o b f k s)
-      merged ← combineRewrites first last
-      some (extend (dropLast (flatTerm o b f k s)) (extend merged (skipOne explanation)))
+  first ← firstOf explanation
+  cond (hasForward first || hasBackward first) (some (extend (flatTerm o b f k s) explanation)) do
+    last ← lastOf (flatTerm o b f k s)
+    merged ← combineRewrites first last
+    some (extend (dropLast (flatTerm o b f k s)) (extend merged (skipOne explanation)))
 
 -- `terms[i] = term`
 unfoldable pub setTerm : ℕ → Flats → Flats → Option Flats
@@ -99,24 +99,24 @@ unfolding extend
 setTerm i term noFlats = none
 setTerm zero term (flatTerm o b f k s) = some (extend term s)
 setTerm (suc i) term (flatTerm o b f k s) = do
-    rest ← setTerm i term s
-    some (flatTerm o b f k rest)
+  rest ← setTerm i term s
+  some (flatTerm o b f k rest)
 
 -- fn flatten_explanation. Its first loop: the first term of each child's proof, without marks
 unfoldable pub representatives : List Flats → Option Flats
 unfolding removeRewrites extend
 representatives [] = some noFlats
 representatives (p ∷ ps) = do
-    first ← firstOf p
-    rest ← representatives ps
-    some (extend (removeRewrites first) rest)
+  first ← firstOf p
+  rest ← representatives ps
+  some (extend (removeRewrites first) rest)
 
 -- `proof.last_mut().unwrap().children[i] = child`
 abbrev pub setChild : ℕ → Flats → Flats → Option Flats
 setChild i child noFlats = none
 setChild i child (flatTerm o b f k s) = do
-    children ← setTerm i child k
-    some (flatTerm o b f children s)
+  children ← setTerm i child k
+  some (flatTerm o b f children s)
 
 -- its inner loops: for each of the others of a child's proof a term of the representatives, the one at place i replaced by it
 unfoldable pub replaced : ℕ → Flats → ℕ → Flats → Flats
@@ -134,12 +134,12 @@ unfoldable pub childLoop : ℕ → ℕ → Flats → List Flats → Flats → Op
 unfolding extend lastOf dropLast setTerm pushed removeRewrites
 childLoop o i reps [] proof = some proof
 childLoop o i reps (p ∷ ps) proof = do
-    first ← firstOf p
-    last ← lastOf proof
-    kept ← setChild i first last
-    end ← lastOf p
-    next ← setTerm i (removeRewrites end) reps
-    childLoop o (suc i) next ps (extend (extend (dropLast proof) kept) (pushed o i reps (skipOne p)))
+  first ← firstOf p
+  last ← lastOf proof
+  kept ← setChild i first last
+  end ← lastOf p
+  next ← setTerm i (removeRewrites end) reps
+  childLoop o (suc i) next ps (extend (extend (dropLast proof) kept) (pushed o i reps (skipOne p)))
 
 -- `proof[0].backward_rule = ..; proof[0].forward_rule = ..`
 abbrev pub setRules : Option ℕ → Option ℕ → Flats → Option Flats
@@ -149,24 +149,25 @@ setRules backward forward (flatTerm o b f k s) = some (flatTerm o backward forwa
 unfoldable pub flattenExplanation : ℕ → Option ℕ → Option ℕ → List Flats → Option Flats
 unfolding representatives childLoop
 flattenExplanation o backward forward ps = do
-    reps ← representatives ps
-    proof ← childLoop o 0 reps ps (flatTerm o none none reps noFlats)
-    setRules backward forward proof
+  reps ← representatives ps
+  proof ← childLoop o 0 reps ps (flatTerm o none none reps noFlats)
+  setRules backward forward proof
 
 -- fn flatten_proof, and the flattened proofs of the children
 unfoldable mutual
   unfolding flattenExplanation appended
+
   pub flattenProof : Trees → Flats → Option Flats
   flattenProof noTrees flat = some flat
   flattenProof (treeTerm o b f kids rest) flat = do
-      ps ← flattenChildren kids
-      explanation ← flattenExplanation o b f ps
-      longer ← appended flat explanation
-      flattenProof rest longer
+    ps ← flattenChildren kids
+    explanation ← flattenExplanation o b f ps
+    longer ← appended flat explanation
+    flattenProof rest longer
 
   pub flattenChildren : Proofs → Option (List Flats)
   flattenChildren noProofs = some []
   flattenChildren (proofOf p ps) = do
-      q ← flattenProof p noFlats
-      qs ← flattenChildren ps
-      some (q ∷ qs)
+    q ← flattenProof p noFlats
+    qs ← flattenChildren ps
+    some (q ∷ qs)

@@ -11,8 +11,8 @@ use Rattle.rust.specs.Explain.{Justification, rule, congruence, Connecti
 -- `self.explainfind[node].parent_connection`
 abbrev pub parentConnection : Explain → ℕ → Option Connection
 parentConnection e node = do
-    x ← getElem? (e .explainfind) node
-    some (x .parent)
+  x ← getElem? (e .explainfind) node
+  some (x .parent)
 
 -- `a != b`
 abbrev pub differ : ℕ → ℕ → Bool
@@ -39,11 +39,11 @@ commonAncestor (suc rounds) e seenLeft seenRight left right =
 unfoldable pub connectionsFrom : ℕ → Explain → ℕ → ℕ → Option (List Connection)
 connectionsFrom zero e node ancestor = none
 connectionsFrom (suc rounds) e node ancestor = do
-    c ← parentConnection e node
-    cond (eqb (c .next) ancestor) (some (c ∷ [])) do
-      assert (differ (c .next) node)
-      nodes ← connectionsFrom rounds e (c .next) ancestor
-      some (c ∷ nodes)
+  c ← parentConnection e node
+  cond (eqb (c .next) ancestor) (some (c ∷ [])) do
+    assert (differ (c .next) node)
+    nodes ← connectionsFrom rounds e (c .next) ancestor
+    some (c ∷ nodes)
 
 unfoldable pub getConnections : ℕ → Explain → ℕ → ℕ → Option (List Connection)
 unfolding connectionsFrom
@@ -58,10 +58,10 @@ pub record Path : Type 0 where
 unfoldable pub getPathUnoptimized : ℕ → Explain → ℕ → ℕ → Option Path
 unfolding commonAncestor getConnections
 getPathUnoptimized rounds e left right = do
-    ancestor ← commonAncestor rounds e [] [] left right
-    lefts ← getConnections rounds e left ancestor
-    rights ← getConnections rounds e right ancestor
-    some (record { lefts = lefts; rights = rights })
+  ancestor ← commonAncestor rounds e [] [] left right
+  lefts ← getConnections rounds e left ancestor
+  rights ← getConnections rounds e right ancestor
+  some (record { lefts = lefts; rights = rights })
 
 -- fn get_neighbor: the first rule that leads there, else a congruence
 abbrev pub isRule : Justification → Bool
@@ -74,8 +74,8 @@ neighborTo (c ∷ cs) current next = cond (eqb (c .next) next && isRule (c .just
 
 abbrev pub getNeighbor : Explain → ℕ → ℕ → Option Connection
 getNeighbor e current next = do
-    x ← getElem? (e .explainfind) current
-    some (neighborTo (x .neighbors) current next)
+  x ← getElem? (e .explainfind) current
+  some (neighborTo (x .neighbors) current next)
 
 -- fn get_path: as far as the memo leads, and from there without it
 unfoldable pub getPath : ℕ → Explain → List Connection → ℕ → ℕ → Option Path
@@ -84,11 +84,11 @@ getPath zero e lefts left right = none
 getPath (suc rounds) e lefts left right =
     cond (eqb left right) (some (record { lefts = lefts; rights = [] })) (elim (memoed (e .memo) left right) [
       | none ↦ do
-          rest ← getPathUnoptimized (suc rounds) e left right
-          some (record { lefts = lefts ++ rest .lefts; rights = rest .rights })
+        rest ← getPathUnoptimized (suc rounds) e left right
+        some (record { lefts = lefts ++ rest .lefts; rights = rest .rights })
       | some next ↦ do
-          c ← getNeighbor e left next
-          getPath rounds e (lefts ++ (c ∷ [])) next right
+        c ← getNeighbor e left next
+        getPath rounds e (lefts ++ (c ∷ [])) next right
     ])
 
 -- fn explain_enodes, its loop: a connection past the left ones is turned
