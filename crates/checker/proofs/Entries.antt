@@ -11,7 +11,7 @@ use Rattle.model.specs.Pattern.{Patterns, Instance, fits}
 use Rattle.model.specs.Rule.{Rule}
 use Rattle.model.specs.Tables.{ruleWords}
 use Rattle.terms.specs.Place.{Decides}
-use Rattle.rules.specs.Pattern.{PatternsAt}
+use Rattle.matching.specs.Pattern.{PatternsAt}
 use Rattle.rule_table.proofs.Entries.{EntryIs}
 use Rattle.rule_table.proofs.Parts.{Spells}
 use Rattle.rule_table.proofs.Table.{left-part, right-part}

@@ -13,9 +13,10 @@ use Rattle.model.specs.declared.Verdict.{Verdict}
 use Rattle.model.specs.declared.Verdict.the-variants.{Accepted, Rejected}
 use Rattle.model.specs.Judged.{good}
 use Rattle.model.specs.Limits.{termLimit, wordLimit}
+use Rattle.model.specs.declared.Direction.the-variants.{Forward, Backward}
 use Rattle.model.specs.Term.{Terms, noTerms, tree, Term, one, count, words, read}
 use Rattle.model.specs.Rule.{Rule}
-use Rattle.model.specs.Step.{step, someMark, isMark, isForward, isBackward, nested, unlisted}
+use Rattle.model.specs.Step.{step, someMark, isMark, goes, nested, unlisted}
 use Rattle.model.specs.Verdict.{rejectIf, laterVerdict, chainVerdict, termsVerdict, verdict}
 use Rattle.terms.specs.Place.{TermAt, RowAt, Well, EndsAt}
 use Rattle.terms.proofs.Place.{row-tree, row-well, end-same, term-row, read-row}
@@ -43,11 +44,11 @@ one-way-backward m e = rw e (go (m .backward))
     go true = refl
     go false = refl
 
-pub one-way-of : (f : Terms) (b : Bool) → oneWay (marksOf f) ≡ b → (not (someMark isMark f) || (someMark isForward f && someMark isBackward f)) ≡ not b
+pub one-way-of : (f : Terms) (b : Bool) → oneWay (marksOf f) ≡ b → (not (someMark isMark f) || (someMark (goes Forward) f && someMark (goes Backward) f)) ≡ not b
 one-way-of f b e =
-    let p : not (not (not (someMark isForward f || someMark isBackward f) || (someMark isForward f && someMark isBackward f))) ≡ not b = ap not e in
-    ap (λ (x : Bool). not x || (someMark isForward f && someMark isBackward f)) (some-either f)
-    ∙ (sym (twice (not (someMark isForward f || someMark isBackward f) || (someMark isForward f && someMark isBackward f))) ∙ p)
+    let p : not (not (not (someMark (goes Forward) f || someMark (goes Backward) f) || (someMark (goes Forward) f && someMark (goes Backward) f))) ≡ not b = ap not e in
+    ap (λ (x : Bool). not x || (someMark (goes Forward) f && someMark (goes Backward) f)) (some-either f)
+    ∙ (sym (twice (not (someMark (goes Forward) f || someMark (goes Backward) f) || (someMark (goes Forward) f && someMark (goes Backward) f))) ∙ p)
   where
     twice : (x : Bool) → not (not x) ≡ x
     twice true = refl
@@ -92,7 +93,7 @@ by-fault false false false false k v = refl
 later-by-fault : (rs : List Rule) (k : ℕ) (s t : Terms) (v : Verdict) → laterVerdict rs k s t v ≡ afterFault (faultOf rs s t) k v
 unfolding laterVerdict faultOf
 later-by-fault rs k s t v =
-    by-fault (not (someMark isMark t) || (someMark isForward t && someMark isBackward t)) (nested t) (unlisted rs t) (not (step rs s t)) k v
+    by-fault (not (someMark isMark t) || (someMark (goes Forward) t && someMark (goes Backward) t)) (nested t) (unlisted rs t) (not (step rs s t)) k v
 
 some-fault : (n k : ℕ) (v : Verdict) → (n ≡ 0 → ⊥) → afterFault n k v ≡ Rejected n k
 unfolding afterFault

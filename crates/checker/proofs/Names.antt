@@ -8,11 +8,12 @@ use mathlib.Core.Path.{_≡_, refl, sym, _∙_, ap}
 use native.Mathlib.Omega.{arith}
 use lib.ListN.{length, getD}
 use Rattle.model.specs.Judged.{good}
-use Rattle.model.specs.Term.{Mark, unmarked, forward, backward, markWord, ruleWord, Term, one}
+use Rattle.model.specs.Term.{Mark, unmarked, marked, markWord, ruleWord, Term, one}
 use Rattle.model.specs.Rule.{Rule, listed, isListed}
 use Rattle.model.specs.Step.{someMark, namesUnlisted, unlisted}
 use Rattle.terms.specs.Place.{nodeOf, TermAt, Well}
 use Rattle.terms.proofs.Place.{term-row}
+use Rattle.terms.proofs.Read.{direction-some}
 use Rattle.rule_table.specs.Entries.{rulesIn, Accepted}
 use Rattle.marks.proofs.Left.{Left, left-down, left-first, left-none, left-room, left-few}
 use Rattle.marks.proofs.Seen.{some-join}
@@ -21,14 +22,12 @@ use Rattle.checker.specs.Check.{NamesIs, UnlistedIs}
 -- an unmarked node names no rule
 pub names-none : (rs : List Rule) (m : Mark) → markWord m ≡ 0 → false ≡ namesUnlisted rs m
 names-none rs unmarked e = refl
-names-none rs (forward n) e = absurd (omega arith)
-names-none rs (backward n) e = absurd (omega arith)
+names-none rs (marked d n) e = absurd (direction-some d e)
 
 -- a marked one is judged by its rule
 pub names-rule : (rs : List Rule) (m : Mark) (o : Option Rule) → (markWord m ≡ 0 → ⊥) → listed rs (ruleWord m) ≡ o → not (isListed o) ≡ namesUnlisted rs m
 names-rule rs unmarked o h e = absurd (h refl)
-names-rule rs (forward n) o h e = ap (λ (x : Option Rule). not (isListed x)) (sym e)
-names-rule rs (backward n) o h e = ap (λ (x : Option Rule). not (isListed x)) (sym e)
+names-rule rs (marked d n) o h e = ap (λ (x : Option Rule). not (isListed x)) (sym e)
 
 -- where the walk is: what is left names an unlisted rule exactly where the whole term does
 pub NamesHere : List ℕ → ℕ → List ℕ → ℕ → ℕ → ℕ → Type 0

@@ -9,12 +9,13 @@ use native.Mathlib.Decide.{ℕ-discrete}
 use borrow.Author.Tests.{ne-eqb, eq-eqb}
 use lib.ListN.{length, getD}
 use Rattle.model.specs.Judged.{good}
-use Rattle.model.specs.Term.{Mark, unmarked, forward, backward, markWord, Terms, noTerms, tree, Term, one, count, join, sameOp}
+use Rattle.model.specs.Term.{Mark, unmarked, marked, markWord, Terms, noTerms, tree, Term, one, count, join, sameOp}
 use Rattle.model.specs.Rule.{Rule}
 use Rattle.model.specs.Step.{allowed, step}
 use Rattle.terms.specs.declared.Node.{Node}
 use Rattle.terms.specs.Place.{nodeOf, sameHead, TermAt, RowAt, Well, EndsAt}
 use Rattle.terms.proofs.Place.{Tree, row-tree, row-well, row-fits, term-row, end-same}
+use Rattle.terms.proofs.Read.{direction-some}
 use Rattle.terms.proofs.SameWalk.{heads, heads-same, sameAt}
 use Rattle.marks.proofs.Left.{ends}
 use Rattle.rule_table.specs.Entries.{rulesIn, Accepted}
@@ -29,10 +30,8 @@ step-count rs noTerms (tree o m k s) h = absurd (true≢false (sym h))
 step-count rs (tree o m k s) noTerms h = absurd (true≢false (sym h))
 step-count rs (tree o m k s) (tree o′ unmarked k′ s′) h =
     let (a, b) = and-eq-true-iff (sameOp o o′) _ .0 h in let (c, d) = and-eq-true-iff (step rs k k′) _ .0 b in ap suc (step-count rs s s′ d)
-step-count rs (tree o m k s) (tree o′ (forward n) k′ s′) h =
-    let (a, b) = and-eq-true-iff (allowed rs (forward n) (tree o m k noTerms) (tree o′ (forward n) k′ noTerms)) _ .0 h in ap suc (step-count rs s s′ b)
-step-count rs (tree o m k s) (tree o′ (backward n) k′ s′) h =
-    let (a, b) = and-eq-true-iff (allowed rs (backward n) (tree o m k noTerms) (tree o′ (backward n) k′ noTerms)) _ .0 h in ap suc (step-count rs s s′ b)
+step-count rs (tree o m k s) (tree o′ (marked d n) k′ s′) h =
+    let (a, b) = and-eq-true-iff (allowed rs (marked d n) (tree o m k noTerms) (tree o′ (marked d n) k′ noTerms)) _ .0 h in ap suc (step-count rs s s′ b)
 
 uneven : (rs : List Rule) (f g : Terms) → (count f ≡ count g → ⊥) → step rs f g ≡ false
 uneven rs f g h = go (step rs f g) refl
@@ -51,11 +50,8 @@ step-join rs (tree o m k r) (tree o′ unmarked k′ r′) s s′ e =
     ap (λ (b : Bool). sameOp o o′ && (step rs k k′ && b)) (step-join rs r r′ s s′ (omega arith))
     ∙ (ap (λ (b : Bool). sameOp o o′ && b) (sym (and-assoc (step rs k k′) (step rs r r′) (step rs s s′)))
     ∙ sym (and-assoc (sameOp o o′) (step rs k k′ && step rs r r′) (step rs s s′)))
-step-join rs (tree o m k r) (tree o′ (forward n) k′ r′) s s′ e =
-    let a = allowed rs (forward n) (tree o m k noTerms) (tree o′ (forward n) k′ noTerms) in
-    ap (λ (b : Bool). a && b) (step-join rs r r′ s s′ (omega arith)) ∙ sym (and-assoc a (step rs r r′) (step rs s s′))
-step-join rs (tree o m k r) (tree o′ (backward n) k′ r′) s s′ e =
-    let a = allowed rs (backward n) (tree o m k noTerms) (tree o′ (backward n) k′ noTerms) in
+step-join rs (tree o m k r) (tree o′ (marked d n) k′ r′) s s′ e =
+    let a = allowed rs (marked d n) (tree o m k noTerms) (tree o′ (marked d n) k′ noTerms) in
     ap (λ (b : Bool). a && b) (step-join rs r r′ s s′ (omega arith)) ∙ sym (and-assoc a (step rs r r′) (step rs s s′))
 
 -- an unmarked node: operator and count agree, and the children go on with the rest; or the rows do not step
@@ -63,14 +59,12 @@ plain-down : (rs : List Rule) (o o′ : ℕ) (m m′ : Mark) (k k′ s s′ : Te
     → step rs (join k s) (join k′ s′) ≡ step rs (tree o m k s) (tree o′ m′ k′ s′)
 unfolding step
 plain-down rs o o′ m unmarked k k′ s s′ z e c = step-join rs k k′ s s′ c ∙ ap (λ (b : Bool). b && (step rs k k′ && step rs s s′)) (sym (eq-eqb o o′ e))
-plain-down rs o o′ m (forward n) k k′ s s′ z e c = absurd (omega arith)
-plain-down rs o o′ m (backward n) k k′ s s′ z e c = absurd (omega arith)
+plain-down rs o o′ m (marked d n) k k′ s s′ z e c = absurd (direction-some d z)
 
 other-op : (rs : List Rule) (o o′ : ℕ) (m m′ : Mark) (k k′ s s′ : Terms) → markWord m′ ≡ 0 → (o ≡ o′ → ⊥) → step rs (tree o m k s) (tree o′ m′ k′ s′) ≡ false
 unfolding step
 other-op rs o o′ m unmarked k k′ s s′ z e = ap (λ (b : Bool). b && (step rs k k′ && step rs s s′)) (ne-eqb o o′ e)
-other-op rs o o′ m (forward n) k k′ s s′ z e = absurd (omega arith)
-other-op rs o o′ m (backward n) k k′ s s′ z e = absurd (omega arith)
+other-op rs o o′ m (marked d n) k k′ s s′ z e = absurd (direction-some d z)
 
 falls : (a b c : Bool) → b ≡ false → (a && (b && c)) ≡ false
 falls true b c e = ap (λ (x : Bool). x && c) e
@@ -79,16 +73,14 @@ falls false b c e = refl
 other-count : (rs : List Rule) (o o′ : ℕ) (m m′ : Mark) (k k′ s s′ : Terms) → markWord m′ ≡ 0 → (count k ≡ count k′ → ⊥) → step rs (tree o m k s) (tree o′ m′ k′ s′) ≡ false
 unfolding step
 other-count rs o o′ m unmarked k k′ s s′ z c = falls (sameOp o o′) (step rs k k′) (step rs s s′) (uneven rs k k′ c)
-other-count rs o o′ m (forward n) k k′ s s′ z c = absurd (omega arith)
-other-count rs o o′ m (backward n) k k′ s s′ z c = absurd (omega arith)
+other-count rs o o′ m (marked d n) k k′ s s′ z c = absurd (direction-some d z)
 
 -- a marked node: what its mark allows, and the rest
 marked-over : (rs : List Rule) (o o′ : ℕ) (m m′ : Mark) (k k′ s s′ : Terms) → (markWord m′ ≡ 0 → ⊥)
     → step rs (tree o m k s) (tree o′ m′ k′ s′) ≡ (allowed rs m′ (tree o m k noTerms) (tree o′ m′ k′ noTerms) && step rs s s′)
 unfolding step
 marked-over rs o o′ m unmarked k k′ s s′ h = absurd (h refl)
-marked-over rs o o′ m (forward n) k k′ s s′ h = refl
-marked-over rs o o′ m (backward n) k k′ s s′ h = refl
+marked-over rs o o′ m (marked d n) k k′ s s′ h = refl
 
 -- where heads differ, operators or counts do
 differ : (n : Node) (o c : ℕ) → sameHead n o c ≡ false → n .op .0 ≡ o → n .count ≡ c → ⊥
@@ -127,10 +119,10 @@ module _ (rs : List Rule) (ws : List ℕ) (i j n : ℕ) where
   pair-plain (tree o m k s) (tree o′ m′ k′ s′) hf hg z b e =
       plain o o′ m m′ k k′ s s′ (row-tree ws i n o m k s hf) (row-tree ws j n o′ m′ k′ s′ hg) z b e
 
-  marked : (o o′ : ℕ) (m m′ : Mark) (k k′ s s′ : Terms) → Tree ws i n o m k s → Tree ws j n o′ m′ k′ s′ → (getD ws (j + 2) 0 ≡ 0 → ⊥)
+  at-mark : (o o′ : ℕ) (m m′ : Mark) (k k′ s s′ : Terms) → Tree ws i n o m k s → Tree ws j n o′ m′ k′ s′ → (getD ws (j + 2) 0 ≡ 0 → ⊥)
       → (e e′ : ℕ) → EndsAt ws i e → EndsAt ws j e′ → (b : Bool) → b ≡ allowed rs m′ (tree o m k noTerms) (tree o′ m′ k′ noTerms)
       → PairOk b rs ws i (record { ok = b; i = e; j = e′; more = 0 }) n (tree o m k s) (tree o′ m′ k′ s′)
-  marked o o′ m m′ k k′ s s′ x y z e e′ h h′ true a =
+  at-mark o o′ m m′ k k′ s s′ x y z e e′ h h′ true a =
       let up = ends ws i e h in
       let c : 0 + n ≡ n = omega arith in
       record {
@@ -142,7 +134,7 @@ module _ (rs : List Rule) (ws : List ℕ) (i j n : ℕ) where
         up = omega (arith, up .up);
         within = up .within;
       }
-  marked o o′ m m′ k k′ s s′ x y z e e′ h h′ false a =
+  at-mark o o′ m m′ k k′ s s′ x y z e e′ h h′ false a =
       marked-over rs o o′ m m′ k k′ s s′ (λ q. z (y .mark ∙ q)) ∙ ap (λ (d : Bool). d && step rs s s′) (sym a)
 
   pub pair-marked : (rws : List ℕ) (count′ : ℕ) → rulesIn rws count′ ≡ good rs → (f g : Terms) → RowAt ws i (suc n) f → RowAt ws j (suc n) g
@@ -154,7 +146,7 @@ module _ (rs : List Rule) (ws : List ℕ) (i j n : ℕ) where
   pair-marked rws c are (tree o m k s) (tree o′ m′ k′ s′) hf hg z e e′ h h′ b a =
       let x = row-tree ws i n o m k s hf in
       let y = row-tree ws j n o′ m′ k′ s′ hg in
-      marked o o′ m m′ k k′ s s′ x y z e e′ h h′ b (a rs are (x .stop) (y .stop) _ _ (x .term) (y .term))
+      at-mark o o′ m m′ k k′ s s′ x y z e e′ h h′ b (a rs are (x .stop) (y .stop) _ _ (x .term) (y .term))
 
 -- what is left of the terms t and u steps exactly where they do
 pub record Both (rs : List Rule) (ws : List ℕ) (i j n : ℕ) (t u : Term) : Type 0 where

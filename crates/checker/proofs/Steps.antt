@@ -5,12 +5,13 @@ use mathlib.Core.List.{List}
 use mathlib.Core.Option.{Option, none, some}
 use mathlib.Core.Path.{_≡_, refl, sym, _∙_, ap, subst}
 use borrow.Author.Tests.{eqb-true, eq-eqb}
-use Rattle.model.specs.Term.{Mark, unmarked, forward, backward, Terms, noTerms, tree}
+use Rattle.model.specs.Term.{Mark, unmarked, marked, Terms, noTerms, tree}
 use Rattle.model.specs.Rule.{Rule, listed, isListed}
-use Rattle.model.specs.Step.{ByRule, Allowed, Step, fitsRule, allowed, step, isMark, someMark, nested, namesUnlisted, unlisted}
+use Rattle.model.specs.Step.{leftOf, rightOf, ByRule, Allowed, Step, fitsRule, allowed, step, isMark, someMark, nested, namesUnlisted, unlisted}
 use Rattle.model.specs.Pattern.{Patterns, Instance, fits}
+use Rattle.laws.proofs.Truth.{neither, nor}
 use Rattle.terms.specs.Place.{Decides}
-use Rattle.rules.proofs.Matching.{fits-decides}
+use Rattle.matching.proofs.Matching.{fits-decides}
 
 and : {a b : Bool} → a ≡ true → b ≡ true → (a && b) ≡ true
 and p q = cc
@@ -37,14 +38,12 @@ rule-fits rs n s t b =
 pub allowed-sound : (rs : List Rule) (m : Mark) (s t : Terms) → allowed rs m s t ≡ true → Allowed rs m s t
 unfolding allowed
 allowed-sound rs unmarked s t h = absurd (true≢false (sym h))
-allowed-sound rs (forward n) s t h = fits-rule rs n (listed rs n) s t refl h
-allowed-sound rs (backward n) s t h = fits-rule rs n (listed rs n) t s refl h
+allowed-sound rs (marked d n) s t h = fits-rule rs n (listed rs n) (leftOf d s t) (rightOf d s t) refl h
 
 pub allowed-complete : (rs : List Rule) (m : Mark) (s t : Terms) → Allowed rs m s t → allowed rs m s t ≡ true
 unfolding allowed
 allowed-complete rs unmarked s t h = absurd h
-allowed-complete rs (forward n) s t h = rule-fits rs n s t h
-allowed-complete rs (backward n) s t h = rule-fits rs n t s h
+allowed-complete rs (marked d n) s t h = rule-fits rs n (leftOf d s t) (rightOf d s t) h
 
 pub step-sound : (rs : List Rule) (s t : Terms) → step rs s t ≡ true → Step rs s t
 unfolding step Step
@@ -55,10 +54,8 @@ step-sound rs (tree o m k s) (tree o′ unmarked k′ s′) h =
     let (a, b) = and-eq-true-iff _ _ .0 h in
     let (c, d) = and-eq-true-iff _ _ .0 b in
     (eqb-true o o′ a, step-sound rs k k′ c, step-sound rs s s′ d)
-step-sound rs (tree o m k s) (tree o′ (forward n) k′ s′) h =
-    let (a, b) = and-eq-true-iff _ _ .0 h in (allowed-sound rs (forward n) _ _ a, step-sound rs s s′ b)
-step-sound rs (tree o m k s) (tree o′ (backward n) k′ s′) h =
-    let (a, b) = and-eq-true-iff _ _ .0 h in (allowed-sound rs (backward n) _ _ a, step-sound rs s s′ b)
+step-sound rs (tree o m k s) (tree o′ (marked d n) k′ s′) h =
+    let (a, b) = and-eq-true-iff _ _ .0 h in (allowed-sound rs (marked d n) _ _ a, step-sound rs s s′ b)
 
 pub step-complete : (rs : List Rule) (s t : Terms) → Step rs s t → step rs s t ≡ true
 unfolding step Step
@@ -67,18 +64,8 @@ step-complete rs noTerms (tree o m k s) h = absurd h
 step-complete rs (tree o m k s) noTerms h = absurd h
 step-complete rs (tree o m k s) (tree o′ unmarked k′ s′) h =
     and (eq-eqb o o′ (h .0)) (and (step-complete rs k k′ (h .1)) (step-complete rs s s′ (h .2)))
-step-complete rs (tree o m k s) (tree o′ (forward n) k′ s′) h =
-    and (allowed-complete rs (forward n) _ _ (h .0)) (step-complete rs s s′ (h .1))
-step-complete rs (tree o m k s) (tree o′ (backward n) k′ s′) h =
-    and (allowed-complete rs (backward n) _ _ (h .0)) (step-complete rs s s′ (h .1))
-
--- no part of a disjunction
-pub neither : (a b : Bool) → (a || b) ≡ false → (a ≡ false) × (b ≡ false)
-neither true b h = absurd (true≢false h)
-neither false b h = (refl, h)
-
-pub nor : {a b : Bool} → a ≡ false → b ≡ false → (a || b) ≡ false
-nor p q = cc
+step-complete rs (tree o m k s) (tree o′ (marked d n) k′ s′) h =
+    and (allowed-complete rs (marked d n) _ _ (h .0)) (step-complete rs s s′ (h .1))
 
 -- where there is no mark, none names an unlisted rule
 unmarked-listed : (rs : List Rule) (f : Terms) → someMark isMark f ≡ false → someMark (namesUnlisted rs) f ≡ false
@@ -86,8 +73,7 @@ unfolding someMark
 unmarked-listed rs noTerms h = refl
 unmarked-listed rs (tree o unmarked k s) h =
     let (a, b) = neither _ _ h in nor (unmarked-listed rs k a) (unmarked-listed rs s b)
-unmarked-listed rs (tree o (forward n) k s) h = absurd (true≢false h)
-unmarked-listed rs (tree o (backward n) k s) h = absurd (true≢false h)
+unmarked-listed rs (tree o (marked d n) k s) h = absurd (true≢false h)
 
 by-listed : (rs : List Rule) (n : ℕ) (s t : Terms) → ByRule rs n s t → not (isListed (listed rs n)) ≡ false
 by-listed rs n s t b = ap (λ (o : Option Rule). not (isListed o)) (b .isIn)
@@ -100,9 +86,6 @@ step-listed rs noTerms (tree o m k s) h e = absurd h
 step-listed rs (tree o m k s) noTerms h e = absurd h
 step-listed rs (tree o m k s) (tree o′ unmarked k′ s′) h e =
     let (a, b) = neither _ _ e in nor (step-listed rs k k′ (h .1) a) (step-listed rs s s′ (h .2) b)
-step-listed rs (tree o m k s) (tree o′ (forward n) k′ s′) h e =
-    let (a, b) = neither _ _ e in
-    nor (by-listed rs n _ _ (h .0)) (nor (unmarked-listed rs k′ a) (step-listed rs s s′ (h .1) b))
-step-listed rs (tree o m k s) (tree o′ (backward n) k′ s′) h e =
+step-listed rs (tree o m k s) (tree o′ (marked d n) k′ s′) h e =
     let (a, b) = neither _ _ e in
     nor (by-listed rs n _ _ (h .0)) (nor (unmarked-listed rs k′ a) (step-listed rs s s′ (h .1) b))

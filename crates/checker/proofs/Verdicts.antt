@@ -11,12 +11,14 @@ use lib.ListN.{length}
 use Rattle.model.specs.declared.Verdict.{Verdict}
 use Rattle.model.specs.declared.Verdict.the-variants.{Accepted}
 use Rattle.model.specs.Limits.{termLimit, wordLimit}
+use Rattle.model.specs.declared.Direction.the-variants.{Forward, Backward}
 use Rattle.model.specs.Term.{Terms, noTerms, tree, count, read}
 use Rattle.model.specs.Rule.{Rule}
-use Rattle.model.specs.Step.{step, someMark, isMark, isForward, isBackward, nested, unlisted}
+use Rattle.model.specs.Step.{step, someMark, isMark, goes, nested, unlisted}
 use Rattle.model.specs.Verdict.{Later, Chain, Strict, Proves, rejectIf, laterVerdict, chainVerdict, termsVerdict, verdict}
 use Rattle.terms.proofs.Read.{read-words, reads-read}
-use Rattle.checker.proofs.Steps.{step-sound, step-complete, step-listed, neither}
+use Rattle.laws.proofs.Truth.{neither}
+use Rattle.checker.proofs.Steps.{step-sound, step-complete, step-listed}
 
 -- what was not rejected comes from behind the test
 pub passed : (t : Bool) (n k : ℕ) (v : Verdict) (m : ℕ) → rejectIf t n k v ≡ Accepted m → (t ≡ false) × (v ≡ Accepted m)
@@ -27,7 +29,7 @@ pub later-sound : (rs : List Rule) (k : ℕ) (s t : Terms) (v : Verdict) (n : �
     → Later rs s t × (v ≡ Accepted n)
 unfolding laterVerdict
 later-sound rs k s t v n h =
-    let (a, h₁) = passed (not (someMark isMark t) || (someMark isForward t && someMark isBackward t)) 15 k _ n h in
+    let (a, h₁) = passed (not (someMark isMark t) || (someMark (goes Forward) t && someMark (goes Backward) t)) 15 k _ n h in
     let (b, h₂) = passed (nested t) 18 k _ n h₁ in
     let (c, h₃) = passed (unlisted rs t) 16 k _ n h₂ in
     let (d, h₄) = passed (not (step rs s t)) 17 k v n h₃ in

@@ -9,11 +9,12 @@ use lib.ListN.{length}
 use Rattle.model.specs.declared.Verdict.{Verdict}
 use Rattle.model.specs.declared.Verdict.the-variants.{Accepted}
 use Rattle.model.specs.Judged.{good}
+use Rattle.model.specs.declared.Direction.the-variants.{Forward, Backward}
 use Rattle.model.specs.Term.{Mark, markWord, ruleWord, Terms, noTerms, tree, Term, one}
 use Rattle.model.specs.Pattern.{fits}
 use Rattle.model.specs.Rule.{Rule, listed}
 use Rattle.model.specs.Tables.{ruleEntry}
-use Rattle.model.specs.Step.{fitsRule, allowed, step, someMark, isMark, isForward, isBackward, nested, namesUnlisted, unlisted}
+use Rattle.model.specs.Step.{fitsRule, allowed, step, someMark, isMark, goes, nested, namesUnlisted, unlisted}
 use Rattle.model.specs.Verdict.{chainVerdict, termsVerdict, verdict}
 use Rattle.terms.specs.declared.Node.{Node}
 use Rattle.terms.specs.Place.{TermAt, RowAt}
@@ -90,7 +91,7 @@ faultIf false n f = f
 unfoldable pub faultOf : List Rule → Terms → Terms → ℕ
 unfolding step someMark nested unlisted
 faultOf rs s t =
-    faultIf (not (someMark isMark t) || (someMark isForward t && someMark isBackward t)) 15
+    faultIf (not (someMark isMark t) || (someMark (goes Forward) t && someMark (goes Backward) t)) 15
     (faultIf (nested t) 18 (faultIf (unlisted rs t) 16 (faultIf (not (step rs s t)) 17 0)))
 
 abbrev pub FaultIs : List ℕ → ℕ → List ℕ → ℕ → ℕ → ℕ → Type 0

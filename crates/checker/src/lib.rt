@@ -46,7 +46,7 @@ fn unlisted_in(rules: &[u16], count: usize, words: &[u16], at: usize) -> bool
         if names_unlisted(rules, count, n) {
             return true;
         }
-        pending = pending - 1 + terms::wide(n.count);
+        pending = pending - 1 + model::wide(n.count);
         pos += 4;
     }
     false
@@ -62,7 +62,7 @@ fn entry_fits(rules: &[u16], i: usize, words: &[u16], a: usize, b: usize) -> boo
     let left = i * RULE_WORDS + rule_table::LEFT;
     let right = left + SIDE_WORDS;
     let end = right + SIDE_WORDS;
-    rules::rule_fits(&rules[left..right], &rules[right..end], words, a, b)
+    matching::rule_fits(&rules[left..right], &rules[right..end], words, a, b)
 }
 
 // Whether the rule of a number makes the term at `a` its left side and the term at `b` its right side.
@@ -118,7 +118,7 @@ fn pair_step(rules: &[u16], count: usize, words: &[u16], i: usize, j: usize) -> 
             ok: same,
             i: i + 4,
             j: j + 4,
-            more: terms::wide(y.count),
+            more: model::wide(y.count),
         };
     }
     let fits = mark_fits(rules, count, words, i, j);

@@ -8,11 +8,12 @@ use lib.ListN.{length, getD}
 use Rattle.model.specs.Limits.{nodeLimit}
 use Rattle.model.specs.declared.Connection.{Connection}
 use Rattle.model.specs.Forest.{root}
-use Rattle.forest.specs.Hangs.{nextOf, depth}
-use Rattle.forest.specs.Tables.{oldest, Stands}
-use Rattle.forest.proofs.Laws.{walk-self}
-use Rattle.forest.proofs.Places.{depth-next}
-use Rattle.forest.proofs.Climbs.{length-oldest}
+use Rattle.paths.specs.Hangs.{nextOf, depth}
+use Rattle.entries.specs.Connections.{oldest}
+use Rattle.forest.specs.Parents.{Stands}
+use Rattle.paths.proofs.Laws.{walk-self}
+use Rattle.paths.proofs.Places.{depth-next}
+use Rattle.entries.proofs.Connections.{length-oldest}
 use Rattle.forest.proofs.Older.{Onward, left-onward, right-onward, left-walk, right-walk}
 use Rattle.costs.specs.Costs.{costCap, held, weigh}
 

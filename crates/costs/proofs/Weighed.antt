@@ -16,11 +16,12 @@ use Rattle.model.specs.Limits.{distanceLimit}
 use Rattle.model.specs.Node.{Node}
 use Rattle.model.specs.Forest.{cur, nxt, dist, costBy, sumPairs}
 use Rattle.model.specs.Tables.{wordsFrom}
-use Rattle.forest.specs.Tables.{connectionIn, oldest, firstNodes, childrenIn}
-use Rattle.forest.proofs.Tables.{children-in}
-use Rattle.forest.proofs.Climbs.{length-oldest}
-use Rattle.forest.proofs.Children.{left, left-all, left-next, left-none}
-use Rattle.forest.proofs.Related.{Steps, related}
+use Rattle.entries.specs.Connections.{connectionIn, oldest}
+use Rattle.entries.specs.Nodes.{firstNodes, childrenIn}
+use Rattle.entries.proofs.Nodes.{children-in}
+use Rattle.entries.proofs.Connections.{length-oldest}
+use Rattle.entries.proofs.Children.{left, left-all, left-next, left-none}
+use Rattle.paths.proofs.Related.{Steps, related}
 use Rattle.costs.specs.Costs.{costCap, held, costAt, filled, Filled, weigh, Priced}
 
 -- the table that is filled in the order of age

@@ -8,7 +8,8 @@ use Rattle.model.specs.declared.Connection.{Connection}
 use Rattle.model.specs.Limits.{nodeLimit, distanceLimit}
 use Rattle.model.specs.Node.{Node}
 use Rattle.model.specs.Forest.{cur, nxt, root, walk, costBy, dist}
-use Rattle.forest.specs.Tables.{connectionIn, oldest, firstNodes}
+use Rattle.entries.specs.Connections.{connectionIn, oldest}
+use Rattle.entries.specs.Nodes.{firstNodes}
 
 abbrev pub costCap : ℕ
 costCap = suc distanceLimit

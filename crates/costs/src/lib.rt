@@ -1,20 +1,22 @@
 // Distances: the cost of each connection in the order of age, and the sum over a path, held at a cap.
 // A table of costs has a word for each connection. A cost is computed from older ones alone, each once.
-use forest::child_of;
-use forest::connection_at;
-use forest::count_of;
+use connections::connection_at;
 use forest::depth_of;
 use forest::next_of;
 use forest::parent_of;
 use model::DISTANCE_LIMIT;
 use model::Justification;
 use model::NodeNo;
-use terms::wide;
+use model::wide;
+use nodes::child_of;
+use nodes::count_of;
 ghost use mathlib.Core.Path.{_≡_};
 ghost use Prim.Native.Nat.{_+_, _-_, _/_, _<_, _≤_};
 ghost use lib.ListN.{length, getD};
 ghost use Rattle.model.specs.Forest.{sumPairs, dist};
-ghost use Rattle.forest.specs.Tables.{Stands, Supported, Twins, oldest, childrenIn};
+ghost use Rattle.forest.specs.Parents.{Stands};
+ghost use Rattle.entries.specs.Connections.{Supported, Twins, oldest};
+ghost use Rattle.entries.specs.Nodes.{childrenIn};
 ghost use Rattle.costs.specs.Costs.{costCap, held, costAt, filled, Filled, nodesOf, weigh, Priced, Pair};
 
 // The first sum past the limit: what is above is held here.

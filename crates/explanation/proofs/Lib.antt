@@ -1,3 +1,6 @@
 pub mod Whole
 pub mod Measures
+pub mod Answers
+pub mod DemandTwo
 pub mod DemandThree
+pub mod Inhabited

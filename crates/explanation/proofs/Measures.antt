@@ -5,11 +5,10 @@ use mathlib.Core.Bool.{true, false}
 use mathlib.Core.Path.{_≡_}
 use borrow.Author.Tests.{lt-ltb, le-ltb}
 use lib.ListN.{length}
+use Rattle.model.specs.declared.Measured.the-variants.{Distance, Unmeasured}
 use Rattle.model.specs.Limits.{distanceLimit}
 use Rattle.model.specs.Forest.{joined, dist}
-use Rattle.model.specs.Query.{Tables}
-use Rattle.explanation.specs.declared.Measured.the-variants.{Distance, Unmeasured}
-use Rattle.explanation.specs.Measure.{measure}
+use Rattle.model.specs.Query.{Tables, measure}
 
 module _ (t : Tables) (l r : ℕ) where
   pub no-left : length (t .nodes) ≤ l → Unmeasured 8 ≡ measure t l r

@@ -7,29 +7,33 @@ use native.Mathlib.Omega.{arith}
 use lib.ListN.{length}
 use Rattle.model.specs.declared.Connection.{Connection}
 use Rattle.model.specs.declared.Judgement.the-variants.{Taken, Faulty}
+use Rattle.model.specs.declared.Measured.the-variants.{Unmeasured}
 use Rattle.model.specs.declared.Verdict.the-variants.{Rejected}
 use Rattle.model.specs.Judged.{Judged, good, bad, judgementOf}
 use Rattle.model.specs.Rule.{Rule}
 use Rattle.model.specs.Node.{Node}
 use Rattle.model.specs.Query.{Tables}
-use Rattle.model.specs.Tables.{nodeTable, ruleTable, connectionTable, withNodes, withConnections, tables, verdictBy}
-use Rattle.forest.specs.Tables.{firstNodes, oldest, parentWords}
-use Rattle.forest.proofs.Entries.{taken-good, faulty-bad}
-use Rattle.forest.specs.Whole.{NodesWhole, ConnectionsWhole}
-use Rattle.forest.proofs.Whole.{nodes-whole, connections-whole}
+use Rattle.model.specs.Tables.{nodeTable, ruleTable, connectionTable, withNodes, withConnections, judgeTables, measureBy, verdictBy}
+use Rattle.entries.specs.Nodes.{firstNodes}
+use Rattle.entries.specs.Connections.{oldest}
+use Rattle.forest.specs.Parents.{parentWords}
+use Rattle.laws.proofs.Judging.{taken-good, faulty-bad}
+use Rattle.entries.specs.Nodes.{NodesWhole}
+use Rattle.forest.specs.Parents.{ConnectionsWhole}
+use Rattle.entries.proofs.Nodes.{nodes-whole}
+use Rattle.forest.proofs.Whole.{connections-whole}
 use Rattle.rule_table.specs.Entries.{rulesIn}
 use Rattle.rule_table.proofs.Table.{table-accepted}
-use Rattle.explanation.specs.declared.Measured.the-variants.{Unmeasured}
-use Rattle.explanation.specs.Measure.{measureBy, parentsBy}
+use Rattle.explanation.specs.Measure.{parentsBy}
 
 -- a table that is refused, and nothing but zeros in the table of parents
 module _ (nws rws cws : List ℕ) where
-  pub bad-nodes : (n : ℕ) → Faulty n ≡ judgementOf (nodeTable nws) → tables nws rws cws ≡ bad n
-  unfolding tables
+  pub bad-nodes : (n : ℕ) → Faulty n ≡ judgementOf (nodeTable nws) → judgeTables nws rws cws ≡ bad n
+  unfolding judgeTables
   bad-nodes n e = rw (faulty-bad (nodeTable nws) n e)
 
-  pub bad-rules : NodesWhole nws → (n : ℕ) → Faulty n ≡ judgementOf (ruleTable rws) → tables nws rws cws ≡ bad n
-  unfolding tables
+  pub bad-rules : NodesWhole nws → (n : ℕ) → Faulty n ≡ judgementOf (ruleTable rws) → judgeTables nws rws cws ≡ bad n
+  unfolding judgeTables
   bad-rules a n e = rw (a .is, faulty-bad (ruleTable rws) n e)
 
 -- nodes and rules are accepted: the connections decide, and leave their parents
@@ -42,8 +46,8 @@ last ns rs (good cs) = record { judged = refl; parents = refl }
 last ns rs (bad n) = record { judged = refl; parents = refl }
 
 pub connections-decide : (nws rws cws : List ℕ) → NodesWhole nws → Taken ≡ judgementOf (ruleTable rws)
-    → Decides (connectionTable (firstNodes (length nws / 10) nws) cws) (tables nws rws cws)
-unfolding tables
+    → Decides (connectionTable (firstNodes (length nws / 10) nws) cws) (judgeTables nws rws cws)
+unfolding judgeTables
 connections-decide nws rws cws a b =
     let g = taken-good (ruleTable rws) b in
     let ns = firstNodes (length nws / 10) nws in
@@ -67,8 +71,8 @@ parts-by nws rws cws t (good ns) p (good rs) q e = go (connectionTable ns cws) r
         let w : record { nodes = ns; rules = rs; conns = cs } ≡ t = cc in
         subst (Parts nws rws cws) w (record { nodes = p; rules = q; conns = r })
 
-pub parts : (nws rws cws : List ℕ) (t : Tables) → tables nws rws cws ≡ good t → Parts nws rws cws t
-unfolding tables
+pub parts : (nws rws cws : List ℕ) (t : Tables) → judgeTables nws rws cws ≡ good t → Parts nws rws cws t
+unfolding judgeTables
 parts nws rws cws t e = parts-by nws rws cws t (nodeTable nws) refl (ruleTable rws) refl e
 
 -- what the checker and climbing want of them
@@ -79,7 +83,7 @@ pub record Whole (nws rws cws parents : List ℕ) (t : Tables) : Type 0 where
   pub nodes : t .nodes ≡ firstNodes (length nws / 10) nws
   pub conns : t .conns ≡ oldest (length cws / 5) cws
 
-pub whole : (nws rws cws ps : List ℕ) (t : Tables) → tables nws rws cws ≡ good t → ps ≡ parentsBy (tables nws rws cws) → Whole nws rws cws ps t
+pub whole : (nws rws cws ps : List ℕ) (t : Tables) → judgeTables nws rws cws ≡ good t → ps ≡ parentsBy (judgeTables nws rws cws) → Whole nws rws cws ps t
 whole nws rws cws ps t e q =
     let p = parts nws rws cws t e in
     let a = nodes-whole nws (sym (ap judgementOf (p .nodes))) in

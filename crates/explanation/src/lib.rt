@@ -3,6 +3,7 @@
 use model::CONNECTION_WORDS;
 use model::DISTANCE_LIMIT;
 use model::Judgement;
+use model::Measured;
 use model::NODE_LIMIT;
 use model::NODE_WORDS;
 use model::NodeNo;
@@ -13,25 +14,21 @@ ghost use Prim.Native.Nat.{_/_};
 ghost use lib.ListN.{length, replicate};
 ghost use Rattle.model.specs.Limits.{nodeLimit};
 ghost use Rattle.model.specs.Judged.{judgementOf};
-ghost use Rattle.model.specs.Tables.{tables, verdictBy};
+ghost use Rattle.model.specs.Query.{measureReport};
+ghost use Rattle.model.specs.Tables.{judgeTables, measureBy, verdictBy};
 ghost use Rattle.model.specs.Verdict.{reportOf};
-ghost use Rattle.forest.specs.Whole.{NodesWhole, ConnectionsWhole};
-ghost use Rattle.explanation.specs.Measure.{measureBy, Measures, parentsBy, measureReport};
-
-// What the distance of a pair answers: the distance, or the number of a refusal.
-pub enum Measured {
-    Distance(usize),
-    Unmeasured(u16),
-}
+ghost use Rattle.entries.specs.Nodes.{NodesWhole};
+ghost use Rattle.forest.specs.Parents.{ConnectionsWhole};
+ghost use Rattle.explanation.specs.Measure.{Measures, parentsBy};
 
 // Tables handed in whole are judged before all else: nodes, rules, connections; the first bad entry decides. The table of
 // parents, lent full of zeros, holds what climbing wants of accepted connections.
 fn judge_tables(nodes: &[u16], rules: &[u16], connections: &[u16], parents: &mut [u16]) -> Judgement
     requires { ⌜ now parents ≡ replicate nodeLimit 0 ⌝ }
-    ensures { λ r. ⌜ r ≡ judgementOf (tables (now (nodes .entry)) (now (rules .entry)) (now (connections .entry))) ⌝ }
-    ensures { λ _. ⌜ now (parents .exit) ≡ parentsBy (tables (now (nodes .entry)) (now (rules .entry)) (now (connections .entry))) ⌝ }
+    ensures { λ r. ⌜ r ≡ judgementOf (judgeTables (now (nodes .entry)) (now (rules .entry)) (now (connections .entry))) ⌝ }
+    ensures { λ _. ⌜ now (parents .exit) ≡ parentsBy (judgeTables (now (nodes .entry)) (now (rules .entry)) (now (connections .entry))) ⌝ }
 {
-    let a = forest::judge_nodes(nodes);
+    let a = nodes::judge_nodes(nodes);
     if let Judgement::Faulty(number) = a {
         return Judgement::Faulty(number);
     }
@@ -44,7 +41,7 @@ fn judge_tables(nodes: &[u16], rules: &[u16], connections: &[u16], parents: &mut
 
 // The strict checker over tables handed in whole and any words: how many terms were accepted, or the refusal and its place.
 pub fn check(nodes: &[u16], rules: &[u16], connections: &[u16], words: &[u16]) -> Verdict
-    ensures { λ r. ⌜ r ≡ verdictBy (tables (now (nodes .entry)) (now (rules .entry)) (now (connections .entry))) (now (words .entry)) ⌝ }
+    ensures { λ r. ⌜ r ≡ verdictBy (judgeTables (now (nodes .entry)) (now (rules .entry)) (now (connections .entry))) (now (words .entry)) ⌝ }
 {
     let mut parents = [0u16; NODE_LIMIT];
     let judged = judge_tables(nodes, rules, connections, &mut parents);
@@ -67,10 +64,10 @@ fn measure(
     ensures { λ r. ⌜ Measures (now (nodes .entry)) (now (connections .entry)) (left .0) (right .0) r ⌝ }
 {
     let n = nodes.len() / NODE_WORDS;
-    if n <= terms::wide(left.0) {
+    if n <= model::wide(left.0) {
         return Measured::Unmeasured(8);
     }
-    if n <= terms::wide(right.0) {
+    if n <= model::wide(right.0) {
         return Measured::Unmeasured(8);
     }
     let count = connections.len() / CONNECTION_WORDS;
@@ -93,7 +90,7 @@ pub fn distance(
     left: NodeNo,
     right: NodeNo,
 ) -> Measured
-    ensures { λ r. ⌜ r ≡ measureBy (tables (now (nodes .entry)) (now (rules .entry)) (now (connections .entry))) (left .0) (right .0) ⌝ }
+    ensures { λ r. ⌜ r ≡ measureBy (judgeTables (now (nodes .entry)) (now (rules .entry)) (now (connections .entry))) (left .0) (right .0) ⌝ }
 {
     let mut parents = [0u16; NODE_LIMIT];
     let judged = judge_tables(nodes, rules, connections, &mut parents);
@@ -112,8 +109,8 @@ pub extern "C" fn erbighenti_check(
     words: &[u16],
     value: &mut u64,
 ) -> u16
-    ensures { λ r. ⌜ r ≡ reportOf (verdictBy (tables (now (nodes .entry)) (now (rules .entry)) (now (connections .entry))) (now (words .entry))) .number ⌝ }
-    ensures { λ _. ⌜ now (value .exit) ≡ reportOf (verdictBy (tables (now (nodes .entry)) (now (rules .entry)) (now (connections .entry))) (now (words .entry))) .value ⌝ }
+    ensures { λ r. ⌜ r ≡ reportOf (verdictBy (judgeTables (now (nodes .entry)) (now (rules .entry)) (now (connections .entry))) (now (words .entry))) .number ⌝ }
+    ensures { λ _. ⌜ now (value .exit) ≡ reportOf (verdictBy (judgeTables (now (nodes .entry)) (now (rules .entry)) (now (connections .entry))) (now (words .entry))) .value ⌝ }
 {
     let verdict = check(nodes, rules, connections, words);
     match verdict {
@@ -138,8 +135,8 @@ pub extern "C" fn erbighenti_distance(
     right: u16,
     value: &mut u64,
 ) -> u16
-    ensures { λ r. ⌜ r ≡ measureReport (measureBy (tables (now (nodes .entry)) (now (rules .entry)) (now (connections .entry))) left right) .number ⌝ }
-    ensures { λ _. ⌜ now (value .exit) ≡ measureReport (measureBy (tables (now (nodes .entry)) (now (rules .entry)) (now (connections .entry))) left right) .distance ⌝ }
+    ensures { λ r. ⌜ r ≡ measureReport (measureBy (judgeTables (now (nodes .entry)) (now (rules .entry)) (now (connections .entry))) left right) .number ⌝ }
+    ensures { λ _. ⌜ now (value .exit) ≡ measureReport (measureBy (judgeTables (now (nodes .entry)) (now (rules .entry)) (now (connections .entry))) left right) .distance ⌝ }
 {
     let measured = distance(nodes, rules, connections, NodeNo(left), NodeNo(right));
     match measured {

@@ -1,32 +1,29 @@
 -- What judging leaves: tables that stand, and the table of parents that belongs to them.
-use Prim.Native.Nat.{ℕ, zero, suc, _+_, _*_, _-_, _/_, _≤_, _<_}
-use mathlib.Core.Path.{_≡_, refl, sym, ap, _∙_, subst₂}
-use mathlib.Core.Bool.{true, not, _&&_, and-eq-true-iff}
-use mathlib.Core.List.{List, [], _∷_, _++_}
-use mathlib.Core.Option.{Option, none, some}
-use native.Mathlib.Omega.{arith}
-use native.Mathlib.Numerals.{add-one}
-use native.Mathlib.Nat.{add-zero, le-div-iff-mul-le, div-eq-of-lt-le}
+use Prim.Native.Nat.{ℕ, zero, suc, _*_, _+_, _/_, _<_, _≤_}
+use mathlib.Core.List.{List, [], _∷_}
+use mathlib.Core.Path.{_∙_, _≡_, ap, refl, sym}
 use native.Mathlib.Decide.{ℕ-discrete}
-use borrow.Author.Tests.{leb-true, leb-false, ltb-true, not-false}
-use lib.Dec.{leb, ltb}
-use lib.Seq.{getD-at, getD-set-same, getD-set-other, ext-getD}
-use lib.ListN.{length, getD, set, replicate, length-append, length-set, length-replicate, getD-replicate, List·getD-append}
+use native.Mathlib.Nat.{div-eq-of-lt-le, le-div-iff-mul-le}
+use native.Mathlib.Numerals.{add-one}
+use native.Mathlib.Omega.{arith}
+use lib.ListN.{List·getD-append, getD, getD-replicate, length, length-append, length-replicate, length-set, replicate, set}
+use lib.Seq.{ext-getD, getD-at, getD-set-other, getD-set-same}
+use Rattle.model.specs.Connect.{addConnection}
+use Rattle.model.specs.Forest.{cur}
+use Rattle.model.specs.Judged.{Judged, bad, good, judgementOf}
+use Rattle.model.specs.Limits.{nodeLimit}
+use Rattle.model.specs.Node.{Node}
+use Rattle.model.specs.Tables.{connectionEntry, connectionTable, entries}
 use Rattle.model.specs.declared.Connection.{Connection}
-use Rattle.model.specs.declared.Judgement.the-variants.{Taken, Faulty}
-use Rattle.model.specs.Limits.{nodeLimit, childLimit}
-use Rattle.model.specs.Judged.{Judged, good, bad, judgementOf}
-use Rattle.model.specs.Node.{Node, allBelow, addNode}
-use Rattle.model.specs.Forest.{cur, nxt}
-use Rattle.model.specs.Connect.{misplaced, supported, addConnection}
-use Rattle.model.specs.Tables.{wordsFrom, nodeAt, nodeEntry, connectionEntry, entries, nodeTable, connectionTable}
-use Rattle.forest.specs.Hangs.{Accepted}
-use Rattle.forest.specs.Tables.{connectionIn, oldest, firstNodes, ageOf, agesOf, countIn, childrenIn, connectionsTo, nodesTo, Within, NodesStand, Stands}
-use Rattle.forest.proofs.Accept.{taken, sound, accepted-forest}
-use Rattle.forest.proofs.Climbs.{length-oldest, age-new, age-old}
-use Rattle.forest.proofs.Count.{connections-few}
-use Rattle.forest.proofs.Tables.{whole, entry-some, length-nodes}
-use Rattle.forest.proofs.Entries.{taken-good, faulty-bad, first-bad, one-more}
+use Rattle.model.specs.declared.Judgement.the-variants.{Faulty, Taken}
+use Rattle.laws.proofs.Judging.{faulty-bad, first-bad, one-more, taken-good}
+use Rattle.paths.proofs.Accept.{accepted-forest, sound}
+use Rattle.paths.proofs.Count.{connections-few}
+use Rattle.paths.specs.Hangs.{Accepted, Within}
+use Rattle.entries.proofs.Connections.{connections, length-oldest}
+use Rattle.entries.specs.Connections.{connectionIn, connectionsTo, oldest}
+use Rattle.forest.proofs.Ages.{age-new, age-old}
+use Rattle.forest.specs.Parents.{Stands, ageOf, agesOf}
 
 -- the words of the table of parents
 pub length-ages : (cs : List Connection) (k : ℕ) → length (agesOf cs k) ≡ k
@@ -87,152 +84,6 @@ stands ns ps ws k a few room p =
       forest = f;
       agree = λ m h. ap (λ (l : List ℕ). getD l m 0) p ∙ ages-at (oldest k ws) nodeLimit m h;
     }
-
--- a table of connections, entry by entry
-pub record Connections (ns : List Node) (ws : List ℕ) (k : ℕ) (cs : List Connection) : Type 0 where
-  pub is : cs ≡ oldest k ws
-  pub accepted : Accepted ns (oldest k ws)
-  pub room : k * 5 ≤ length ws
-
-some-same : {A : Type 0} {a b : A} → some a ≡ some b → a ≡ b
-some-same p = cc
-
-record Added (ns : List Node) (cs : List Connection) (e : Option Connection) (new : List Connection) : Type 0 where
-  conn : Connection
-  entry : e ≡ some conn
-  is : new ≡ conn ∷ cs
-  accepted : addConnection ns cs (some conn) ≡ good (conn ∷ cs)
-
-added : (ns : List Node) (cs : List Connection) (e : Option Connection) (new : List Connection) → addConnection ns cs e ≡ good new →
-    Added ns cs e new
-unfolding addConnection
-added ns cs none new p = let z : _≡_ {A = ℕ} 0 1 = cc in absurd (omega arith)
-added ns cs (some c) new p =
-    let a = taken (misplaced ns cs c) 6 _ _ p in
-    let b = taken (not (supported ns cs (c .why) (cur c) (nxt c))) 7 _ _ (a .1) in
-    let q : new ≡ c ∷ cs = cc in
-    record { conn = c; entry = refl; is = q; accepted = rw q at p }
-
-pub added-some : (ns : List Node) (cs : List Connection) (c : Connection) {new : List Connection} →
-    addConnection ns cs (some c) ≡ good new → addConnection ns cs (some c) ≡ good (c ∷ cs)
-added-some ns cs c {new} p =
-    let a = added ns cs (some c) new p in
-    let e : c ≡ a .conn = some-same (a .entry) in
-    p ∙ ap good (a .is ∙ ap (λ (d : Connection). d ∷ cs) (sym e))
-
-pub step-connection : (ns : List Node) (ws : List ℕ) (k : ℕ) {cs new : List Connection} → Connections ns ws k cs →
-    addConnection ns cs (connectionEntry ws k) ≡ good new → Connections ns ws (suc k) new
-unfolding oldest
-step-connection ns ws k {cs} {new} s p =
-    let a = added ns cs (connectionEntry ws k) new p in
-    let e = entry-some ws k (a .entry) in
-    let q = a .accepted in
-    let r = s .is in
-    record {
-      is = a .is ∙ cc;
-      accepted =
-          (subst₂ (λ (c : Connection) (l : List Connection). addConnection ns l (some c) ≡ good (c ∷ l)) (e .is) (s .is) (a .accepted), s .accepted);
-      room = omega (arith, e .room);
-    }
-
-pub connections : (ns : List Node) (ws : List ℕ) (k : ℕ) (cs : List Connection) → connectionsTo ns ws k ≡ good cs → Connections ns ws k cs
-unfolding entries oldest
-connections ns ws zero cs p = record { is = cc; accepted = tt; room = omega arith }
-connections ns ws (suc k) cs p = go (connectionsTo ns ws k) refl (connections ns ws k)
-  where
-    go : (j : Judged (List Connection)) → connectionsTo ns ws k ≡ j →
-        ((older : List Connection) → connectionsTo ns ws k ≡ good older → Connections ns ws k older) → Connections ns ws (suc k) cs
-    go (good older) q rec = step-connection ns ws k (rec older q) (sym (one-more (addConnection ns) (connectionEntry ws) [] k q) ∙ p)
-    go (bad n) q rec =
-        let z : _≡_ {A = ℕ} 0 1 = cc (first-bad (addConnection ns) (connectionEntry ws) [] k (suc k) n (omega arith) q) in
-        absurd (omega arith)
-
--- a table of nodes, entry by entry
-pub record Nodes (ws : List ℕ) (k : ℕ) (ns : List Node) : Type 0 where
-  pub is : ns ≡ firstNodes k ws
-  pub stand : NodesStand ws k
-
-pub below-at : (ws : List ℕ) (n at k : ℕ) → allBelow n (wordsFrom ws at k) ≡ true → (i : ℕ) → i < k → getD ws (at + i) 0 < n
-unfolding allBelow wordsFrom
-below-at ws n at zero p i h = absurd (omega arith)
-below-at ws n at (suc k) p i h =
-    let q = and-eq-true-iff (ltb (getD ws at 0) n) (allBelow n (wordsFrom ws (suc at) k)) .0 p in
-    elim (ℕ-discrete i 0) [
-      | yes e ↦ rw (e, add-zero) (ltb-true _ _ (q .0))
-      | no e ↦
-          let same : suc at + (i - 1) ≡ at + i = omega arith in
-          rw same at (below-at ws n (suc at) k (q .1) (i - 1) (omega arith))
-    ]
-
-record NodeAdded (ns : List Node) (e : Option Node) (new : List Node) : Type 0 where
-  node : Node
-  entry : e ≡ some node
-  few : length ns < nodeLimit
-  lower : allBelow (length ns) (node .kids) ≡ true
-  is : new ≡ ns ++ (node ∷ [])
-
-node-added : (ns : List Node) (e : Option Node) (new : List Node) → addNode ns e ≡ good new → NodeAdded ns e new
-unfolding addNode
-node-added ns none new p = let z : _≡_ {A = ℕ} 0 1 = cc in absurd (omega arith)
-node-added ns (some x) new p =
-    let a = taken (leb nodeLimit (length ns)) 3 _ _ p in
-    let b = taken (not (allBelow (length ns) (x .kids))) 4 _ _ (a .1) in
-    record { node = x; entry = refl; few = leb-false _ _ (a .0); lower = not-false _ (b .0); is = cc }
-
-record NodeEntry (ws : List ℕ) (i : ℕ) (x : Node) : Type 0 where
-  room : i * 10 + 10 ≤ length ws
-  narrow : countIn ws i ≤ childLimit
-  is : nodeAt ws i ≡ x
-
-node-entry : (ws : List ℕ) (i : ℕ) (x : Node) → nodeEntry ws i ≡ some x → NodeEntry ws i x
-unfolding nodeEntry
-node-entry ws i x p =
-    let w = whole (leb (i * 10 + 10) (length ws) && leb (getD ws (i * 10 + 1) 0) childLimit) (some (nodeAt ws i)) p in
-    let b = and-eq-true-iff (leb (i * 10 + 10) (length ws)) (leb (getD ws (i * 10 + 1) 0) childLimit) .0 (w .0) in
-    let q = w .1 in
-    record { room = leb-true _ _ (b .0); narrow = leb-true _ _ (b .1); is = cc }
-
-pub step-node : (ws : List ℕ) (k : ℕ) {ns new : List Node} → Nodes ws k ns → addNode ns (nodeEntry ws k) ≡ good new → Nodes ws (suc k) new
-unfolding firstNodes nodeAt
-step-node ws k {ns} {new} s p =
-    let a = node-added ns (nodeEntry ws k) new p in
-    let e = node-entry ws k (a .node) (a .entry) in
-    let size : length ns ≡ k = ap length (s .is) ∙ length-nodes k ws in
-    let low : allBelow k (childrenIn ws k) ≡ true =
-    ap (λ (x : Node). allBelow k (x .kids)) (e .is) ∙ ap (λ (m : ℕ). allBelow m (a .node .kids)) (sym size) ∙ a .lower in
-    record {
-      is = a .is ∙ ap (λ (x : Node). ns ++ (x ∷ [])) (sym (e .is)) ∙ ap (λ (l : List Node). l ++ (nodeAt ws k ∷ [])) (s .is);
-      stand = record {
-        few = omega (arith, a .few);
-        room = omega (arith, e .room);
-        narrow = λ m h. elim (ℕ-discrete m k) [ yes q ↦ rw q (e .narrow) | no q ↦ s .stand .narrow m (omega arith) ];
-        lower = λ m i h g. elim (ℕ-discrete m k) [
-          | yes q ↦ rw q (below-at ws k (k * 10 + 2) (countIn ws k) low i (rw q at g))
-          | no q ↦ s .stand .lower m i (omega arith) g
-        ];
-      };
-    }
-
-pub nodes : (ws : List ℕ) (k : ℕ) (ns : List Node) → nodesTo ws k ≡ good ns → Nodes ws k ns
-unfolding entries firstNodes
-nodes ws zero ns p =
-    record {
-      is = cc;
-      stand = record {
-        few = omega arith;
-        room = omega arith;
-        narrow = λ m h. absurd (omega arith);
-        lower = λ m i h g. absurd (omega arith);
-      };
-    }
-nodes ws (suc k) ns p = go (nodesTo ws k) refl (nodes ws k)
-  where
-    go : (j : Judged (List Node)) → nodesTo ws k ≡ j → ((older : List Node) → nodesTo ws k ≡ good older → Nodes ws k older) →
-        Nodes ws (suc k) ns
-    go (good older) q rec = step-node ws k (rec older q) (sym (one-more addNode (nodeEntry ws) [] k q) ∙ p)
-    go (bad n) q rec =
-        let z : _≡_ {A = ℕ} 0 1 = cc (first-bad addNode (nodeEntry ws) [] k (suc k) n (omega arith) q) in
-        absurd (omega arith)
 
 -- the loop that judges a table of connections and makes the table of parents
 pub record Building (ns : List Node) (conns parents : List ℕ) (age : ℕ) : Type 0 where
@@ -299,28 +150,3 @@ module _ {ns : List Node} {conns parents : List ℕ} {age : ℕ} (few : length n
   building-done h =
       let e : (length conns + 4) / 5 ≡ age = div-eq-of-lt-le 5 (omega (arith, building-stands .room)) (omega arith) in
       rw e (b .sofar)
-
--- the loop that judges a table of nodes
-pub node-bad : (ws : List ℕ) (k n : ℕ) → nodesTo ws k ≡ good (firstNodes k ws) → k * 10 < length ws →
-    Faulty n ≡ judgementOf (addNode (firstNodes k ws) (nodeEntry ws k)) → nodeTable ws ≡ bad n
-unfolding nodeTable
-node-bad ws k n s h p =
-    first-bad addNode (nodeEntry ws) [] (suc k) ((length ws + 9) / 10) n
-    (le-div-iff-mul-le (omega arith) .1 (omega arith)) (one-more addNode (nodeEntry ws) [] k s ∙ faulty-bad _ n p)
-
-pub node-more : (ws : List ℕ) (k : ℕ) → nodesTo ws k ≡ good (firstNodes k ws) →
-    Taken ≡ judgementOf (addNode (firstNodes k ws) (nodeEntry ws k)) → nodesTo ws (suc k) ≡ good (firstNodes (suc k) ws)
-node-more ws k s p =
-    let g = taken-good (addNode (firstNodes k ws) (nodeEntry ws k)) p in
-    let q = one-more addNode (nodeEntry ws) [] k s ∙ g .is in
-    q ∙ ap good (nodes ws (suc k) (g .what) q .is)
-
-pub node-done : (ws : List ℕ) (k : ℕ) → nodesTo ws k ≡ good (firstNodes k ws) → length ws ≤ k * 10 → nodeTable ws ≡ good (firstNodes k ws)
-unfolding nodeTable
-node-done ws k s h =
-    let e : (length ws + 9) / 10 ≡ k = div-eq-of-lt-le 10 (omega (arith, nodes ws k (firstNodes k ws) s .stand .room)) (omega arith) in
-    rw e s
-
-pub nodes-none : (ws : List ℕ) → nodesTo ws 0 ≡ good (firstNodes 0 ws)
-unfolding entries firstNodes
-nodes-none ws = refl

@@ -1,106 +1,14 @@
--- Judging a connection, test by test.
-use Prim.Native.Nat.{ℕ, _+_, _*_, _≤_, _<_}
-use mathlib.Core.Path.{_≡_, refl, sym, ap, _∙_}
-use mathlib.Core.Bool.{Bool, true, false, not, cond, _||_, or-true, false≢true}
+-- Whether a node has a parent, by its word in the table of parents.
+use Prim.Native.Nat.{ℕ, _<_}
+use mathlib.Core.Bool.{false}
 use mathlib.Core.List.{List}
-use mathlib.Core.Option.{Option, none, some}
-use borrow.Author.Tests.{lt-ltb, le-ltb, le-leb, lt-leb, ne-eqb}
-use lib.Dec.{ltb, eqb}
-use lib.ListN.{length, getD}
-use Rattle.model.specs.declared.Connection.{Connection}
-use Rattle.model.specs.declared.Direction.{Direction}
-use Rattle.model.specs.declared.RuleNo.{RuleNo}
-use Rattle.model.specs.declared.Judgement.the-variants.{Taken, Faulty}
-use Rattle.model.specs.declared.Justification.the-variants.{Rule as byRule, Congruence}
-use Rattle.model.specs.Judged.{judgementOf}
-use Rattle.model.specs.Limits.{nodeLimit, childLimit}
-use Rattle.model.specs.Node.{Node, allBelow, addNode}
-use Rattle.model.specs.Forest.{cur, nxt, root, joined, top, parentOf, isTop}
-use Rattle.model.specs.Connect.{misplaced, supported, addConnection}
-use Rattle.model.specs.Tables.{nodeEntry}
-use Rattle.forest.specs.Tables.{present, oldest, firstNodes, countIn, childrenIn, supportIn, Stands}
-use Rattle.forest.proofs.Tables.{operator-in, children-in}
-use Rattle.forest.proofs.Laws.{joined-yes}
-use Rattle.forest.proofs.Climbs.{age-top, aged}
-
-module _ (ns : List Node) (cs : List Connection) (c : Connection) where
-  -- 6 is given for the first of its reasons that the code meets
-  mis-current : length ns ≤ cur c → misplaced ns cs c ≡ true
-  unfolding misplaced
-  mis-current h = rw (le-ltb _ _ h) refl
-
-  mis-next : cur c < length ns → length ns ≤ nxt c → misplaced ns cs c ≡ true
-  unfolding misplaced
-  mis-next l h = rw (lt-ltb _ _ l, le-ltb _ _ h) refl
-
-  mis-parent : isTop (parentOf cs (cur c)) ≡ false → misplaced ns cs c ≡ true
-  unfolding misplaced
-  mis-parent p =
-      rw p
-      (ap (λ b. b || joined cs (cur c) (nxt c)) (or-true (not (ltb (cur c) (length ns)) || not (ltb (nxt c) (length ns)) || eqb (cur c) (nxt c))))
-
-  mis-joined : joined cs (cur c) (nxt c) ≡ true → misplaced ns cs c ≡ true
-  unfolding misplaced
-  mis-joined p =
-      rw p
-      (or-true (not (ltb (cur c) (length ns)) || not (ltb (nxt c) (length ns)) || eqb (cur c) (nxt c) || not (isTop (parentOf cs (cur c)))))
-
-  well-placed : cur c < length ns → nxt c < length ns → parentOf cs (cur c) ≡ top → joined cs (cur c) (nxt c) ≡ false →
-      misplaced ns cs c ≡ false
-  unfolding misplaced
-  well-placed a b p j =
-      rw (
-        lt-ltb _ _ a,
-        lt-ltb _ _ b,
-        ne-eqb (cur c) (nxt c) (λ e. false≢true (sym j ∙ joined-yes cs (cur c) (nxt c) (ap (root cs) e))),
-        p,
-        j,
-      )
-      refl
-
-  judged-6 : misplaced ns cs c ≡ true → Faulty 6 ≡ judgementOf (addConnection ns cs (some c))
-  unfolding addConnection
-  judged-6 p = rw p refl
-
-  judged-on : (b : Bool) → misplaced ns cs c ≡ false → supported ns cs (c .why) (cur c) (nxt c) ≡ b →
-      judgementOf (addConnection ns cs (some c)) ≡ cond b Taken (Faulty 7)
-  unfolding addConnection
-  judged-on true p q = rw (p, q) refl
-  judged-on false p q = rw (p, q) refl
-
-  pub out-current : length ns ≤ cur c → Faulty 6 ≡ judgementOf (addConnection ns cs (some c))
-  out-current h = judged-6 (mis-current h)
-
-  pub out-next : cur c < length ns → length ns ≤ nxt c → Faulty 6 ≡ judgementOf (addConnection ns cs (some c))
-  out-next l h = judged-6 (mis-next l h)
-
-  pub has-parent : isTop (parentOf cs (cur c)) ≡ false → Faulty 6 ≡ judgementOf (addConnection ns cs (some c))
-  has-parent p = judged-6 (mis-parent p)
-
-  pub already : joined cs (cur c) (nxt c) ≡ true → Faulty 6 ≡ judgementOf (addConnection ns cs (some c))
-  already p = judged-6 (mis-joined p)
-
-  -- where 6 is not given, the support decides
-  pub record Placed : Type 0 where
-    pub current-in : cur c < length ns
-    pub next-in : nxt c < length ns
-    pub free : parentOf cs (cur c) ≡ top
-    pub apart : joined cs (cur c) (nxt c) ≡ false
-
-  pub by-rule : Placed → {n : RuleNo} {d : Direction} → c .why ≡ byRule n d → Taken ≡ judgementOf (addConnection ns cs (some c))
-  unfolding supported
-  by-rule p w = sym (judged-on true (well-placed (p .current-in) (p .next-in) (p .free) (p .apart)) (rw w refl))
-
-  pub by-support : Placed → c .why ≡ Congruence → (b : Bool) → supported ns cs Congruence (cur c) (nxt c) ≡ b →
-      cond b Taken (Faulty 7) ≡ judgementOf (addConnection ns cs (some c))
-  by-support p w b q =
-      sym (judged-on b (well-placed (p .current-in) (p .next-in) (p .free) (p .apart)) (ap (λ v. supported ns cs v (cur c) (nxt c)) w ∙ q))
-
--- over words
-pub supported-in : (n : ℕ) (ws : List ℕ) (cs : List Connection) (a b : ℕ) → a < n → b < n →
-    supported (firstNodes n ws) cs Congruence a b ≡ supportIn ws cs a b
-unfolding supported
-supported-in n ws cs a b p q = rw (operator-in n ws a p, operator-in n ws b q, children-in n ws a p, children-in n ws b q) refl
+use mathlib.Core.Path.{_∙_, _≡_, refl, sym}
+use lib.ListN.{getD}
+use Rattle.model.specs.Forest.{isTop, parentOf, top}
+use Rattle.model.specs.Limits.{nodeLimit}
+use Rattle.entries.specs.Connections.{oldest}
+use Rattle.forest.proofs.Ages.{age-top, aged}
+use Rattle.forest.specs.Parents.{Stands}
 
 pub age-some : {ps ws : List ℕ} {count n : ℕ} → Stands ps ws count → n < nodeLimit → (getD ps n 0 ≡ 0 → ⊥) →
     isTop (parentOf (oldest count ws) n) ≡ false
@@ -108,31 +16,3 @@ age-some s b z = rw (aged s b z .by) refl
 
 pub age-none : {ps ws : List ℕ} {count n : ℕ} → Stands ps ws count → n < nodeLimit → getD ps n 0 ≡ 0 → parentOf (oldest count ws) n ≡ top
 age-none {ps} {ws} {count} {n} s b z = age-top (oldest count ws) n (sym (s .agree n b) ∙ z)
-
--- an entry that is not there
-pub absent : (ns : List Node) (cs : List Connection) (o : Option Connection) → present o ≡ false →
-    Faulty 2 ≡ judgementOf (addConnection ns cs o)
-unfolding addConnection
-absent ns cs none p = refl
-absent ns cs (some c) p = absurd (false≢true (sym p))
-
--- Judging a node, test by test.
-module _ (ns : List Node) (ws : List ℕ) (n : ℕ) where
-  pub node-short : length ws < n * 10 + 10 → Faulty 2 ≡ judgementOf (addNode ns (nodeEntry ws n))
-  unfolding addNode nodeEntry
-  node-short h = rw (lt-leb _ _ h) refl
-
-  pub node-wide : n * 10 + 10 ≤ length ws → childLimit < countIn ws n → Faulty 2 ≡ judgementOf (addNode ns (nodeEntry ws n))
-  unfolding addNode nodeEntry
-  node-wide r h = rw (le-leb _ _ r, lt-leb _ _ h) refl
-
-  module _ (r : n * 10 + 10 ≤ length ws) (k : countIn ws n ≤ childLimit) where
-    pub node-many : nodeLimit ≤ length ns → Faulty 3 ≡ judgementOf (addNode ns (nodeEntry ws n))
-    unfolding addNode nodeEntry
-    node-many h = rw (le-leb _ _ r, le-leb _ _ k, le-leb _ _ h) refl
-
-    pub node-lower : length ns < nodeLimit → (b : Bool) → allBelow (length ns) (childrenIn ws n) ≡ b →
-        cond b Taken (Faulty 4) ≡ judgementOf (addNode ns (nodeEntry ws n))
-    unfolding addNode nodeEntry
-    node-lower h true p = rw (le-leb _ _ r, le-leb _ _ k, lt-leb _ _ h, p) refl
-    node-lower h false p = rw (le-leb _ _ r, le-leb _ _ k, lt-leb _ _ h, p) refl

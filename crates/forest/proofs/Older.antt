@@ -11,12 +11,14 @@ use lib.ListN.{length, getD}
 use Rattle.model.specs.Limits.{nodeLimit}
 use Rattle.model.specs.declared.Connection.{Connection}
 use Rattle.model.specs.Forest.{nxt, root, walk, below, parentOf}
-use Rattle.forest.specs.Hangs.{nextOf, depth, Forest}
-use Rattle.forest.specs.Tables.{connectionIn, oldest, Stands}
-use Rattle.forest.proofs.Laws.{parent-old, parent-case, no-parent, depth-below, depth-old, root-below, root-old, depth-zero, climb-left, climb-right}
-use Rattle.forest.proofs.Places.{Place, high, low, place, next-below}
-use Rattle.forest.proofs.Climbs.{aged, age-top, length-oldest}
-use Rattle.forest.proofs.Ways.{climbBy}
+use Rattle.paths.specs.Hangs.{nextOf, depth, Forest}
+use Rattle.entries.specs.Connections.{connectionIn, oldest}
+use Rattle.forest.specs.Parents.{Stands}
+use Rattle.paths.proofs.Laws.{parent-old, parent-case, no-parent, depth-below, depth-old, root-below, root-old, depth-zero, climb-left, climb-right}
+use Rattle.paths.proofs.Places.{Place, high, low, place, next-below}
+use Rattle.forest.proofs.Ages.{aged, age-top}
+use Rattle.entries.proofs.Connections.{length-oldest}
+use Rattle.paths.proofs.Ways.{climbBy}
 
 -- the older connections are a forest, and a node that has a parent among them keeps it
 pub forest-older : (k m : ℕ) (ws : List ℕ) → k ≤ m → Forest (oldest m ws) → Forest (oldest k ws)

@@ -1,35 +1,29 @@
--- From judging to what later layers assume: tables that were accepted whole stand, and an accepted entry keeps them standing.
-use Prim.Native.Nat.{ℕ, suc, _+_, _*_, _/_, _≤_, _<_}
-use mathlib.Core.Path.{_≡_, refl, sym, ap, _∙_, subst}
-use mathlib.Core.List.{List, [], _∷_, _++_}
+-- From judging to what later layers assume: connections that were accepted whole stand, and an accepted entry keeps them standing.
+use Prim.Native.Nat.{ℕ, suc, _*_, _+_, _/_, _<_, _≤_}
+use mathlib.Core.List.{List, _∷_}
 use mathlib.Core.Option.{some}
-use native.Mathlib.Omega.{arith}
+use mathlib.Core.Path.{_∙_, _≡_, ap, refl, subst, sym}
 use native.Mathlib.Numerals.{add-one}
-use lib.Seq.{ext-getD}
+use native.Mathlib.Omega.{arith}
 use lib.ListN.{length, set}
-use Rattle.model.specs.declared.Judgement.the-variants.{Taken}
-use Rattle.model.specs.Limits.{nodeLimit}
-use Rattle.model.specs.Judged.{good, judgementOf}
-use Rattle.model.specs.Node.{addNode}
-use Rattle.model.specs.Forest.{cur}
+use lib.Seq.{ext-getD}
 use Rattle.model.specs.Connect.{addConnection}
-use Rattle.model.specs.Tables.{nodeAt, nodeEntry, nodeTable, connectionEntry, connectionTable}
-use Rattle.forest.specs.Hangs.{Accepted}
-use Rattle.forest.specs.Tables.{connectionIn, oldest, firstNodes, agesOf, parentWords, NodesStand, Stands, Supported}
-use Rattle.forest.proofs.Accept.{sound}
-use Rattle.forest.specs.Whole.{NodesWhole, ConnectionsWhole}
-use Rattle.forest.proofs.Climbs.{length-oldest}
-use Rattle.forest.proofs.Tables.{length-nodes}
-use Rattle.forest.proofs.Entries.{taken-good}
-use Rattle.forest.proofs.Built.{added-some, Nodes, nodes, step-node, connections, step-connection, stands, length-ages, ages-at, ages-more}
-
-pub nodes-whole : (ws : List ℕ) → Taken ≡ judgementOf (nodeTable ws) → NodesWhole ws
-unfolding nodeTable
-nodes-whole ws p =
-    let g = taken-good (nodeTable ws) p in
-    let t = nodes ws ((length ws + 9) / 10) (g .what) (g .is) in
-    let e : (length ws + 9) / 10 ≡ length ws / 10 = omega (arith, t .stand .room) in
-    record { stand = subst (NodesStand ws) e (t .stand); is = g .is ∙ ap good (t .is ∙ ap (λ (k : ℕ). firstNodes k ws) e) }
+use Rattle.model.specs.Forest.{cur}
+use Rattle.model.specs.Judged.{good, judgementOf}
+use Rattle.model.specs.Limits.{nodeLimit}
+use Rattle.model.specs.Tables.{connectionEntry, connectionTable}
+use Rattle.model.specs.declared.Connection.{Connection}
+use Rattle.model.specs.declared.Judgement.the-variants.{Taken}
+use Rattle.laws.proofs.Judging.{taken-good}
+use Rattle.paths.proofs.Accept.{sound}
+use Rattle.paths.specs.Hangs.{Accepted, Forest, Within}
+use Rattle.entries.proofs.Connections.{added-some, connections, length-oldest, step-connection}
+use Rattle.entries.proofs.Kept.{Front, oldest-same}
+use Rattle.entries.proofs.Nodes.{length-nodes}
+use Rattle.entries.specs.Connections.{Supported, connectionIn, oldest}
+use Rattle.entries.specs.Nodes.{NodesStand, firstNodes}
+use Rattle.forest.proofs.Built.{ages-at, ages-more, length-ages, stands}
+use Rattle.forest.specs.Parents.{ConnectionsWhole, Stands, ageOf, agesOf, parentWords}
 
 pub connections-whole : (nodes : List ℕ) (n : ℕ) (conns parents : List ℕ) → NodesStand nodes n →
     Taken ≡ judgementOf (connectionTable (firstNodes n nodes) conns) →
@@ -50,15 +44,6 @@ connections-whole nodes n conns parents s p q =
       support = record { table = s; accepted = accepted };
       is = is;
     }
-
--- one entry more: a node
-pub node-stands : (ws : List ℕ) (n : ℕ) → NodesStand ws n → Taken ≡ judgementOf (addNode (firstNodes n ws) (nodeEntry ws n)) →
-    Nodes ws (suc n) (firstNodes n ws ++ (nodeAt ws n ∷ []))
-unfolding firstNodes
-node-stands ws n s p =
-    let g = taken-good (addNode (firstNodes n ws) (nodeEntry ws n)) p in
-    let t = step-node ws n (record { is = refl; stand = s }) (g .is) in
-    record { is = refl; stand = t .stand }
 
 -- one entry more: a connection, hung into the table of parents
 pub record Grown (nodes : List ℕ) (n : ℕ) (conns parents : List ℕ) (count : ℕ) : Type 0 where
@@ -105,3 +90,15 @@ connection-stands {nodes} {n} {conns} {parents} {new} {count} s a p e =
     let g = taken-good (addConnection ns (oldest count conns) (connectionEntry conns count)) p in
     let t = step-connection ns conns count (record { is = refl; accepted = a .accepted; room = s .room }) (g .is) in
     hung-stands s a (omega (arith, t .room)) (ap judgementOf (sym (t .accepted .0))) e
+
+pub stands-kept : {ps ws vs : List ℕ} {k : ℕ} → Stands ps ws k → Front (k * 5) ws vs → k * 5 ≤ length vs → Stands ps vs k
+stands-kept {ps} {ws} {vs} {k} s f h =
+    let e = oldest-same k ws vs f in
+    record {
+      size = s .size;
+      few = s .few;
+      room = h;
+      within = subst (Within nodeLimit) e (s .within);
+      forest = subst Forest e (s .forest);
+      agree = λ m q. s .agree m q ∙ ap (λ (cs : List Connection). ageOf cs m) e;
+    }

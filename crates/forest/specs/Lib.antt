@@ -1,4 +1,1 @@
-pub mod Hangs
-pub mod Tables
-pub mod Meet
-pub mod Whole
+pub mod Parents

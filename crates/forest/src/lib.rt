@@ -1,82 +1,34 @@
 // Connections and the nodes they join: the tables judged, and where two climbs meet.
 // Tables are lent as words, a node 10 and a connection 5. A table of parents has a word for each node: the age of its
 // parent connection, and 1, or 0 where it has none.
-use model::CHILD_LIMIT;
+use connections::connection_at;
+use connections::entry_whole;
 use model::CONNECTION_WORDS;
 use model::Connection;
-use model::Direction;
 use model::Judgement;
 use model::Justification;
-use model::NODE_LIMIT;
-use model::NODE_WORDS;
 use model::NodeNo;
-use model::OpNo;
-use model::RuleNo;
-use terms::same_op;
-use terms::wide;
+use model::same_op;
+use model::wide;
+use model::word;
+use nodes::child_of;
+use nodes::count_of;
+use nodes::operator_of;
+use paths::Meeting;
 ghost use mathlib.Core.Path.{_≡_};
 ghost use Prim.Native.Nat.{_+_, _*_, _<_, _≤_};
 ghost use lib.ListN.{length, getD, set, replicate};
-ghost use Rattle.forest.specs.Hangs.{depth, nextOf};
-ghost use Rattle.forest.specs.Tables.{Stands, NodesStand, Known, oldest, firstNodes, connectionIn, directionIn, countIn, childIn, childrenIn, supportIn, present, parentWords};
-ghost use Rattle.forest.specs.Meet.{meetOf};
-ghost use Rattle.model.specs.Limits.{nodeLimit, childLimit};
-ghost use Rattle.model.specs.Term.{sameOp};
+ghost use mathlib.Core.Option.{some};
+ghost use Rattle.model.specs.Limits.{nodeLimit};
 ghost use Rattle.model.specs.Judged.{judgementOf};
-ghost use Rattle.model.specs.Node.{allBelow, addNode};
 ghost use Rattle.model.specs.Forest.{joined};
 ghost use Rattle.model.specs.Connect.{pairsJoined, addConnection};
-ghost use Rattle.model.specs.Tables.{nodeEntry, nodeTable, connectionEntry, connectionTable};
-ghost use mathlib.Core.Option.{some};
-
-// Where two climbs meet.
-pub enum Meeting {
-    At(NodeNo),
-    Nowhere,
-}
-
-// A word of an entry that starts at a base.
-fn word(words: &[u16], base: usize, k: usize) -> u16
-    requires { ⌜ base + k < length (now words) ⌝ }
-    ensures { λ r. ⌜ r ≡ getD (now (words .entry)) (base + k) 0 ⌝ }
-{
-    words[base + k]
-}
-
-// Which way a rule connection's last word says.
-fn direction_of(word: u16) -> Direction
-    ensures { λ r. ⌜ r ≡ directionIn word ⌝ }
-{
-    match word {
-        0 => Direction::Backward,
-        _ => Direction::Forward,
-    }
-}
-
-// The connection of an age, by value with its justification.
-pub fn connection_at(conns: &[u16], age: usize) -> Connection
-    requires { ⌜ age * 5 + 5 ≤ length (now conns) ⌝ }
-    ensures { λ r. ⌜ r ≡ connectionIn (now (conns .entry)) age ⌝ }
-{
-    let base = age * CONNECTION_WORDS;
-    let current = NodeNo(word(conns, base, 0));
-    let next = NodeNo(word(conns, base, 1));
-    match word(conns, base, 2) {
-        0 => Connection {
-            current,
-            next,
-            why: Justification::Congruence,
-        },
-        _ => Connection {
-            current,
-            next,
-            why: Justification::Rule(
-                RuleNo(word(conns, base, 3)),
-                direction_of(word(conns, base, 4)),
-            ),
-        },
-    }
-}
+ghost use Rattle.model.specs.Tables.{connectionEntry, connectionTable};
+ghost use Rattle.paths.specs.Hangs.{depth, nextOf};
+ghost use Rattle.paths.specs.Meet.{meetOf};
+ghost use Rattle.entries.specs.Nodes.{NodesStand, Known, firstNodes, countIn, childrenIn};
+ghost use Rattle.entries.specs.Connections.{oldest, connectionIn, supportIn};
+ghost use Rattle.forest.specs.Parents.{Stands, parentWords};
 
 // A node's word in the table of parents.
 pub fn parent_of(parents: &[u16], n: NodeNo) -> usize
@@ -154,30 +106,6 @@ pub fn linked(parents: &[u16], conns: &[u16], count: usize, left: NodeNo, right:
         Meeting::At(_) => true,
         Meeting::Nowhere => false,
     }
-}
-
-// A node's operator.
-pub fn operator_of(nodes: &[u16], n: NodeNo) -> OpNo
-    requires { ⌜ n .0 * 10 + 10 ≤ length (now nodes) ⌝ }
-    ensures { λ r. ⌜ r .0 ≡ getD (now (nodes .entry)) (n .0 * 10) 0 ⌝ }
-{
-    OpNo(nodes[wide(n.0) * NODE_WORDS])
-}
-
-// How many children a node has.
-pub fn count_of(nodes: &[u16], n: NodeNo) -> usize
-    requires { ⌜ n .0 * 10 + 10 ≤ length (now nodes) ⌝ }
-    ensures { λ r. ⌜ r ≡ countIn (now (nodes .entry)) (n .0) ⌝ }
-{
-    wide(word(nodes, wide(n.0) * NODE_WORDS, 1))
-}
-
-// A child of a node, from 0.
-pub fn child_of(nodes: &[u16], n: NodeNo, i: usize) -> NodeNo
-    requires { ⌜ (n .0 * 10 + 10 ≤ length (now nodes)) × (i < childLimit) ⌝ }
-    ensures { λ r. ⌜ r .0 ≡ childIn (now (nodes .entry)) (n .0) i ⌝ }
-{
-    NodeNo(word(nodes, wide(n.0) * NODE_WORDS + 2, i))
 }
 
 // Whether connections join the children of two nodes, of which both have as many, pair by pair.
@@ -273,29 +201,6 @@ pub fn judge_connection(
     }
 }
 
-// Whether the entry of an age is there whole and its fields are in their sets.
-fn entry_whole(conns: &[u16], age: usize) -> bool
-    requires { ⌜ age ≤ nodeLimit ⌝ }
-    ensures { λ r. ⌜ r ≡ present (connectionEntry (now (conns .entry)) age) ⌝ }
-{
-    let base = age * CONNECTION_WORDS;
-    if conns.len() < base + CONNECTION_WORDS {
-        return false;
-    }
-    let rule = word(conns, base, 3);
-    let forward = word(conns, base, 4);
-    match word(conns, base, 2) {
-        0 => {
-            if rule != 0 {
-                return false;
-            }
-            forward == 0
-        }
-        1 => forward < 2,
-        _ => false,
-    }
-}
-
 // Judges the entry of an age, over n nodes, behind the older ones.
 pub fn judge_entry(nodes: &[u16], n: usize, parents: &[u16], conns: &[u16], age: usize) -> Judgement
     requires { ⌜ NodesStand (now nodes) n ⌝ }
@@ -344,58 +249,6 @@ pub fn judge_connections(nodes: &[u16], n: usize, conns: &[u16], parents: &mut [
         }
         hang(parents, connection_at(conns, age).current, age);
         age += 1;
-    }
-    Judgement::Taken
-}
-
-// Whether the children of a node have lower numbers than its own.
-fn children_below(nodes: &[u16], n: usize) -> bool
-    requires { ⌜ (n ≤ nodeLimit) × (n * 10 + 10 ≤ length (now nodes)) × (countIn (now nodes) n ≤ childLimit) ⌝ }
-    ensures { λ r. ⌜ r ≡ allBelow n (childrenIn (now (nodes .entry)) n) ⌝ }
-{
-    let count = wide(word(nodes, n * NODE_WORDS, 1));
-    let mut i: usize = 0;
-    while i < count {
-        if n <= wide(word(nodes, n * NODE_WORDS + 2, i)) {
-            return false;
-        }
-        i += 1;
-    }
-    true
-}
-
-// Judges the entry of node n, behind the nodes before it.
-pub fn judge_node(nodes: &[u16], n: usize) -> Judgement
-    requires { ⌜ n ≤ nodeLimit ⌝ }
-    ensures { λ r. ⌜ r ≡ judgementOf (addNode (firstNodes n (now (nodes .entry))) (nodeEntry (now (nodes .entry)) n)) ⌝ }
-{
-    if nodes.len() < n * NODE_WORDS + NODE_WORDS {
-        return Judgement::Faulty(2);
-    }
-    if CHILD_LIMIT < word(nodes, n * NODE_WORDS, 1) {
-        return Judgement::Faulty(2);
-    }
-    if NODE_LIMIT <= n {
-        return Judgement::Faulty(3);
-    }
-    if children_below(nodes, n) {
-        Judgement::Taken
-    } else {
-        Judgement::Faulty(4)
-    }
-}
-
-// Judges a whole table of nodes.
-pub fn judge_nodes(nodes: &[u16]) -> Judgement
-    ensures { λ r. ⌜ r ≡ judgementOf (nodeTable (now (nodes .entry))) ⌝ }
-{
-    let mut n: usize = 0;
-    while n * NODE_WORDS < nodes.len() {
-        let judged = judge_node(nodes, n);
-        if let Judgement::Faulty(number) = judged {
-            return Judgement::Faulty(number);
-        }
-        n += 1;
     }
     Judgement::Taken
 }

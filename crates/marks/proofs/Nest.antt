@@ -6,10 +6,11 @@ use mathlib.Core.List.{List}
 use mathlib.Core.Path.{_≡_, refl, sym, _∙_, ap}
 use native.Mathlib.Omega.{arith}
 use lib.ListN.{length, getD}
-use Rattle.model.specs.Term.{Mark, unmarked, forward, backward, Terms, noTerms, tree, Term, one, join, markWord}
+use Rattle.model.specs.Term.{Mark, unmarked, marked, Terms, noTerms, tree, Term, one, join, markWord}
 use Rattle.model.specs.Step.{someMark, isMark, nestedIn, nested}
 use Rattle.terms.specs.Place.{TermAt, Well, EndsAt}
 use Rattle.terms.proofs.Place.{term-row}
+use Rattle.terms.proofs.Read.{direction-some}
 use Rattle.marks.specs.Marks.{HasRow, MarkedIs, NestedIs}
 use Rattle.marks.proofs.Left.{Left, left-down, left-over, left-first, left-none, left-room, left-few, left-well}
 
@@ -24,14 +25,12 @@ nested-join (tree o m k r) s =
 down : (o : ℕ) (m : Mark) (k s : Terms) → markWord m ≡ 0 → nested (join k s) ≡ nested (tree o m k s)
 unfolding nested
 down o unmarked k s e = nested-join k s
-down o (forward n) k s e = absurd (omega arith)
-down o (backward n) k s e = absurd (omega arith)
+down o (marked d n) k s e = absurd (direction-some d e)
 
 inside : (o : ℕ) (m : Mark) (k s : Terms) → (markWord m ≡ 0 → ⊥) → nested (tree o m k s) ≡ (someMark isMark k || nested s)
 unfolding nested
 inside o unmarked k s e = absurd (e refl)
-inside o (forward n) k s e = refl
-inside o (backward n) k s e = refl
+inside o (marked d n) k s e = refl
 
 -- where the walk is: what is left has a nested mark exactly where the whole term has
 pub NestHere : List ℕ → ℕ → ℕ → ℕ → Type 0

@@ -7,8 +7,10 @@ use mathlib.Core.List.{List}
 use mathlib.Core.Path.{_≡_, refl, sym, _∙_, ap}
 use lib.Dec.{eqb}
 use lib.ListN.{length, getD}
-use Rattle.model.specs.Term.{Mark, unmarked, forward, backward, Terms, noTerms, tree, join, markWord}
-use Rattle.model.specs.Step.{someMark, isForward, isBackward, isMark}
+use Rattle.model.specs.declared.Direction.{Direction}
+use Rattle.model.specs.declared.Direction.the-variants.{Forward, Backward}
+use Rattle.model.specs.Term.{Mark, unmarked, marked, Terms, noTerms, tree, join, directionWord, markWord}
+use Rattle.model.specs.Step.{someMark, goes, isMark}
 use Rattle.marks.specs.declared.Marks.{Marks}
 use Rattle.marks.specs.Marks.{HasRow, withWord, marksOf, MarksIs}
 use Rattle.terms.specs.Place.{RowAt}
@@ -29,13 +31,18 @@ either false true true d = refl
 either false true false d = refl
 either false false c d = refl
 
-pub some-either : (f : Terms) → someMark isMark f ≡ (someMark isForward f || someMark isBackward f)
+mark-either : (m : Mark) → isMark m ≡ (goes Forward m || goes Backward m)
+mark-either unmarked = refl
+mark-either (marked Forward n) = refl
+mark-either (marked Backward n) = refl
+
+pub some-either : (f : Terms) → someMark isMark f ≡ (someMark (goes Forward) f || someMark (goes Backward) f)
 unfolding someMark
 some-either noTerms = refl
 some-either (tree o m k s) =
-    (λ i. isMark m || (some-either k i || some-either s i))
-    ∙ (ap (λ (b : Bool). isMark m || b) (either (someMark isForward k) (someMark isBackward k) (someMark isForward s) (someMark isBackward s))
-    ∙ either (isForward m) (isBackward m) (someMark isForward k || someMark isForward s) (someMark isBackward k || someMark isBackward s))
+    (λ i. mark-either m i || (some-either k i || some-either s i))
+    ∙ (ap (λ (b : Bool). (goes Forward m || goes Backward m) || b) (either (someMark (goes Forward) k) (someMark (goes Backward) k) (someMark (goes Forward) s) (someMark (goes Backward) s))
+    ∙ either (goes Forward m) (goes Backward m) (someMark (goes Forward) k || someMark (goes Forward) s) (someMark (goes Backward) k || someMark (goes Backward) s))
 
 -- what was seen so far with what is left
 abbrev pub merge : Marks → Marks → Marks
@@ -46,22 +53,21 @@ module _ (p : Mark → Bool) (a b : Bool) (m : Mark) (k s : Terms) (e : b ≡ p 
   one-more : ((a || b) || someMark p (join k s)) ≡ (a || (p m || (someMark p k || someMark p s)))
   one-more = (λ i. (a || e i) || some-join p k s i) ∙ or-assoc a (p m) (someMark p k || someMark p s)
 
-forward-word : (m : Mark) → eqb (markWord m) 1 ≡ isForward m
-forward-word unmarked = refl
-forward-word (forward n) = refl
-forward-word (backward n) = refl
-
-backward-word : (m : Mark) → eqb (markWord m) 2 ≡ isBackward m
-backward-word unmarked = refl
-backward-word (forward n) = refl
-backward-word (backward n) = refl
+-- a mark's word tells its direction
+goes-word : (d : Direction) (m : Mark) → eqb (markWord m) (directionWord d) ≡ goes d m
+goes-word Forward unmarked = refl
+goes-word Backward unmarked = refl
+goes-word Forward (marked Forward n) = refl
+goes-word Forward (marked Backward n) = refl
+goes-word Backward (marked Forward n) = refl
+goes-word Backward (marked Backward n) = refl
 
 pub seen-down : (a : Marks) (w o : ℕ) (m : Mark) (k s : Terms) → w ≡ markWord m → merge (withWord a w) (marksOf (join k s)) ≡ merge a (marksOf (tree o m k s))
 unfolding someMark
 seen-down a w o m k s e = λ i.
     record {
-      forward = one-more isForward (a .forward) (eqb w 1) m k s (ap (λ (x : ℕ). eqb x 1) e ∙ forward-word m) i;
-      backward = one-more isBackward (a .backward) (eqb w 2) m k s (ap (λ (x : ℕ). eqb x 2) e ∙ backward-word m) i;
+      forward = one-more (goes Forward) (a .forward) (eqb w 1) m k s (ap (λ (x : ℕ). eqb x 1) e ∙ goes-word Forward m) i;
+      backward = one-more (goes Backward) (a .backward) (eqb w 2) m k s (ap (λ (x : ℕ). eqb x 2) e ∙ goes-word Backward m) i;
     }
 
 pub seen-all : (a : Marks) → merge a (marksOf noTerms) ≡ a
@@ -110,10 +116,10 @@ module _ (ws : List ℕ) (at n : ℕ) (a : Marks) (pos pending : ℕ) (here : Se
 -- any mark, from the marks of both directions
 pub marked-forward : (m : Marks) (f : Terms) → m ≡ marksOf f → m .forward ≡ true → true ≡ someMark isMark f
 marked-forward m f e h =
-    let p : someMark isForward f ≡ true = cc in
-    sym (some-either f ∙ ap (λ (b : Bool). b || someMark isBackward f) p)
+    let p : someMark (goes Forward) f ≡ true = cc in
+    sym (some-either f ∙ ap (λ (b : Bool). b || someMark (goes Backward) f) p)
 
 pub marked-backward : (m : Marks) (f : Terms) → m ≡ marksOf f → m .forward ≡ false → m .backward ≡ someMark isMark f
 marked-backward m f e h =
-    let p : someMark isForward f ≡ false = cc in
-    ap (λ (x : Marks). x .backward) e ∙ sym (some-either f ∙ ap (λ (b : Bool). b || someMark isBackward f) p)
+    let p : someMark (goes Forward) f ≡ false = cc in
+    ap (λ (x : Marks). x .backward) e ∙ sym (some-either f ∙ ap (λ (b : Bool). b || someMark (goes Backward) f) p)

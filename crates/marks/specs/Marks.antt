@@ -5,8 +5,9 @@ use mathlib.Core.Bool.{Bool, _||_}
 use lib.Dec.{eqb}
 use mathlib.Core.List.{List}
 use mathlib.Core.Path.{_≡_}
+use Rattle.model.specs.declared.Direction.the-variants.{Forward, Backward}
 use Rattle.model.specs.Term.{Terms, Term, one}
-use Rattle.model.specs.Step.{someMark, isForward, isBackward, isMark, nested}
+use Rattle.model.specs.Step.{someMark, goes, isMark, nested}
 use Rattle.terms.specs.Place.{TermAt, RowAt}
 use Rattle.marks.specs.declared.Marks.{Marks}
 
@@ -20,7 +21,7 @@ abbrev pub withWord : Marks → ℕ → Marks
 withWord m w = record { forward = m .forward || eqb w 1; backward = m .backward || eqb w 2 }
 
 abbrev pub marksOf : Terms → Marks
-marksOf f = record { forward = someMark isForward f; backward = someMark isBackward f }
+marksOf f = record { forward = someMark (goes Forward) f; backward = someMark (goes Backward) f }
 
 -- the marks of the row that stands there
 abbrev pub MarksIs : List ℕ → ℕ → ℕ → Marks → Type 0

@@ -41,7 +41,7 @@ pub fn marks_in(words: &[u16], at: usize, count: usize) -> Marks
     while 0 < pending {
         let n = terms::node_at(words, pos);
         seen = with_mark(seen, n.mark);
-        pending = pending - 1 + terms::wide(n.count);
+        pending = pending - 1 + model::wide(n.count);
         pos += 4;
     }
     seen
@@ -68,7 +68,7 @@ pub fn nested_in(words: &[u16], at: usize) -> bool
     let mut pending: usize = 1;
     while 0 < pending {
         let n = terms::node_at(words, pos);
-        let kids = terms::wide(n.count);
+        let kids = model::wide(n.count);
         if n.mark == 0 {
             pending = pending - 1 + kids;
             pos += 4;

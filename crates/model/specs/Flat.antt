@@ -7,16 +7,21 @@ use Rattle.model.specs.declared.Direction.{Direction}
 use Rattle.model.specs.declared.Direction.the-variants.{Forward, Backward}
 use Rattle.model.specs.declared.Justification.{Justification}
 use Rattle.model.specs.declared.Justification.the-variants.{Rule as byRule, Congruence}
-use Rattle.model.specs.Term.{Mark, unmarked, forward, backward, Terms, noTerms, tree, put, one, join}
+use Rattle.model.specs.Term.{Mark, unmarked, marked, Terms, noTerms, tree, put, one, join}
 use Rattle.model.specs.Node.{Node, opOf, kidsOf, row, termOf}
 use Rattle.model.specs.Forest.{cur, nxt, walk, dist}
 
 -- "A connection walked backwards has its direction turned."
+abbrev pub turned : Direction → Direction
+turned Forward = Backward
+turned Backward = Forward
+
+abbrev pub walked : Direction → Bool → Direction
+walked d true = d
+walked d false = turned d
+
 abbrev pub markFor : ℕ → Direction → Bool → Mark
-markFor n Forward true = forward n
-markFor n Forward false = backward n
-markFor n Backward true = backward n
-markFor n Backward false = forward n
+markFor n d up = marked (walked d up) n
 
 -- "A rule connection appends the next node's term, marked at its root": node b's term, so marked
 abbrev pub markedTerm : List Node → Mark → ℕ → Terms
@@ -31,7 +36,8 @@ within o before behind (tree p m k s) =
 
 -- "A congruence rewrites the children first to last, each by its own flat proof, the other children held": those before are
 -- the right node's already, those behind still the left node's. "The first term of that run merges into the last one
--- written and keeps its marks": so only the later terms of each run are appended.
+-- written and keeps its marks": so only the later terms of each run are appended. (Pairs stop at the shorter list: judging has
+-- refused a congruence of unequal counts. So it is in `runsSize`.)
 unfoldable pub runs : List Node → (ℕ → ℕ → Terms) → ℕ → Terms → List ℕ → List ℕ → Terms
 unfolding within join row termOf
 runs ns proof o before [] ys = noTerms

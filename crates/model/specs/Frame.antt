@@ -1,6 +1,6 @@
 -- Lines of hexadecimal, and the frames that they hold.
 use Prim.Native.Nat.{ℕ, zero, suc, _+_, _*_, _-_}
-use mathlib.Core.Bool.{Bool, true, false, _&&_}
+use mathlib.Core.Bool.{Bool, true, false, _&&_, cond}
 use mathlib.Core.List.{List, [], _∷_}
 use mathlib.Core.Option.{Option, none, some}
 use lib.Dec.{leb, eqb}
@@ -12,7 +12,7 @@ use Rattle.model.specs.Rule.{Rule, ruleOf, onePattern}
 use Rattle.model.specs.Node.{Node}
 use Rattle.model.specs.Tables.{onlyIf, itemFront, whyOf, connectionOf}
 
--- 1: "line isn't lower-case hex pairs, is empty, exceeds 8,192 digits"
+-- 1: "line isn't lower-case hex pairs, is empty, exceeds 8,192 digits". In ASCII 0 to 9 are 48 to 57, and a to f are 97 to 102.
 abbrev pub isBetween : ℕ → ℕ → ℕ → Bool
 isBetween a n b = leb a n && leb n b
 
@@ -109,11 +109,11 @@ connectionFrame (a ∷ b ∷ c ∷ d ∷ k ∷ r ∷ n ∷ f ∷ []) = connectio
 connectionFrame (a ∷ b ∷ c ∷ d ∷ k ∷ r ∷ n ∷ f ∷ x ∷ bs) = none
 
 -- 04: "left 2, right 2"
-pub record Pair : Type 0 where
+pub record NodePair : Type 0 where
   pub left : ℕ
   pub right : ℕ
 
-unfoldable pub queryFrame : List ℕ → Option Pair
+unfoldable pub queryFrame : List ℕ → Option NodePair
 queryFrame [] = none
 queryFrame (a ∷ []) = none
 queryFrame (a ∷ b ∷ []) = none
@@ -140,12 +140,35 @@ unfolding sixes
 wordsFrame [] = none
 wordsFrame (b ∷ bs) = sixes (b ∷ bs)
 
+-- The kinds of frames: "01 node", "02 rule", "03 connection", "04 query", "05 words of an offered proof", "06 end of that
+-- proof"; before the first there is none.
+abbrev pub noKind : ℕ
+noKind = 0
+
+abbrev pub nodeKind : ℕ
+nodeKind = 1
+
+abbrev pub ruleKind : ℕ
+ruleKind = 2
+
+abbrev pub connectionKind : ℕ
+connectionKind = 3
+
+abbrev pub queryKind : ℕ
+queryKind = 4
+
+abbrev pub wordsKind : ℕ
+wordsKind = 5
+
+abbrev pub endKind : ℕ
+endKind = 6
+
 -- "The first byte of a frame decides its kind": and 06, "end of that proof", has nothing behind it
 pub data Frame : Type 0 where
   node : Option Node → Frame
   rule : Option Rule → Frame
   connection : Option Connection → Frame
-  query : Option Pair → Frame
+  query : Option NodePair → Frame
   offered : Option (List ℕ) → Frame
   close : Bool → Frame
   unknown : Frame
@@ -156,11 +179,11 @@ isNone (b ∷ bs) = false
 
 unfoldable pub frameOf : ℕ → List ℕ → Frame
 unfolding nodeFrame ruleFrame connectionFrame queryFrame wordsFrame
-frameOf zero bs = unknown
-frameOf (suc zero) bs = node (nodeFrame bs)
-frameOf (suc (suc zero)) bs = rule (ruleFrame bs)
-frameOf (suc (suc (suc zero))) bs = connection (connectionFrame bs)
-frameOf (suc (suc (suc (suc zero)))) bs = query (queryFrame bs)
-frameOf (suc (suc (suc (suc (suc zero))))) bs = offered (wordsFrame bs)
-frameOf (suc (suc (suc (suc (suc (suc zero)))))) bs = close (isNone bs)
-frameOf (suc (suc (suc (suc (suc (suc (suc k))))))) bs = unknown
+frameOf k bs =
+    cond (eqb k nodeKind) (node (nodeFrame bs))
+    (cond (eqb k ruleKind) (rule (ruleFrame bs))
+    (cond (eqb k connectionKind) (connection (connectionFrame bs))
+    (cond (eqb k queryKind) (query (queryFrame bs))
+    (cond (eqb k wordsKind) (offered (wordsFrame bs))
+    (cond (eqb k endKind) (close (isNone bs))
+    unknown)))))

@@ -1,4 +1,4 @@
--- The limits of document 01, each named once.
+-- The limits of document 01, and the size of a tree node in a proof's words, each named once.
 use Prim.Native.Nat.{ℕ}
 
 -- "at most 2,048" nodes, "0 to 8 children", "at most 256 rules", "1 to 64 items a side", "at most 16 variables"
@@ -33,3 +33,7 @@ digitLimit = 8192
 
 abbrev pub programArea : ℕ
 programArea = 32768
+
+-- A proof's words: "four a tree node"
+abbrev pub flatWords : ℕ
+flatWords = 4

@@ -7,8 +7,8 @@ use Rattle.model.specs.Text.{bytes}
 use Rattle.model.specs.Run.{output}
 
 -- Node 0 is the leaf o1, 1 the leaf o2, 2 is (o3 o1), 3 is (o3 o2). Rule r7 makes o1 to o2.
-abbrev nodes : String
-nodes = "01000100\n" ++ "01000200\n" ++ "010003010000\n" ++ "010003010001\n"
+abbrev nodeLines : String
+nodeLines = "01000100\n" ++ "01000200\n" ++ "010003010000\n" ++ "010003010001\n"
 
 abbrev r7 : String
 r7 = "0200070100010001000200\n"
@@ -20,8 +20,8 @@ byRule = "030000000101000701\n"
 abbrev byCongruence : String
 byCongruence = "030002000300000000\n"
 
-abbrev tables : String
-tables = nodes ++ r7 ++ byRule ++ byCongruence
+abbrev tableLines : String
+tableLines = nodeLines ++ r7 ++ byRule ++ byCongruence
 
 -- the offered term (o3 o1), and two that may follow it
 abbrev first : String
@@ -45,27 +45,27 @@ abbrev pub rows : List Row
 rows =
     -- P1 the run of the paper
     record {
-      input = tables ++ "0400020003\n" ++ first ++ second ++ "06\n";
+      input = tableLines ++ "0400020003\n" ++ first ++ second ++ "06\n";
       expected = "distance 1\n" ++ "(o3 o1)\n" ++ "(o3 (Rewrite=> r7 o2))\n" ++ "accepted 2\n";
     }
     -- P2 query 3, 2
-    ∷ record { input = tables ++ "0400030002\n"; expected = "distance 1\n" ++ "(o3 o2)\n" ++ "(o3 (Rewrite<= r7 o1))\n" }
+    ∷ record { input = tableLines ++ "0400030002\n"; expected = "distance 1\n" ++ "(o3 o2)\n" ++ "(o3 (Rewrite<= r7 o1))\n" }
     -- P3 query 1, 1
-    ∷ record { input = tables ++ "0400010001\n"; expected = "distance 0\n" ++ "o2\n" }
+    ∷ record { input = tableLines ++ "0400010001\n"; expected = "distance 0\n" ++ "o2\n" }
     -- P4 query 0, 2: 9
-    ∷ record { input = tables ++ "0400000002\n"; expected = "refused 9 line 8\n" }
+    ∷ record { input = tableLines ++ "0400000002\n"; expected = "refused 9 line 8\n" }
     -- P5 query 0, 4: 8
-    ∷ record { input = tables ++ "0400000004\n"; expected = "refused 8 line 8\n" }
+    ∷ record { input = tableLines ++ "0400000004\n"; expected = "refused 8 line 8\n" }
     -- P6 root o4 in the second term: 17
-    ∷ record { input = tables ++ first ++ "05000401000000000200010007\n" ++ "06\n"; expected = "rejected 17 term 1\n" }
+    ∷ record { input = tableLines ++ first ++ "05000401000000000200010007\n" ++ "06\n"; expected = "rejected 17 term 1\n" }
     -- P7 the mark names r8: 16
-    ∷ record { input = tables ++ first ++ "05000301000000000200010008\n" ++ "06\n"; expected = "rejected 16 term 1\n" }
+    ∷ record { input = tableLines ++ first ++ "05000301000000000200010008\n" ++ "06\n"; expected = "rejected 16 term 1\n" }
     -- P8 only one, unmarked, term
-    ∷ record { input = tables ++ first ++ "06\n"; expected = "accepted 1\n" }
+    ∷ record { input = tableLines ++ first ++ "06\n"; expected = "accepted 1\n" }
     -- P9 06 alone: 12
     ∷ record { input = "06\n"; expected = "rejected 12 term 0\n" }
     -- P10 the two 03 lines exchanged: 7
-    ∷ record { input = nodes ++ r7 ++ byCongruence ++ byRule; expected = "refused 7 line 6\n" }
+    ∷ record { input = nodeLines ++ r7 ++ byCongruence ++ byRule; expected = "refused 7 line 6\n" }
     -- P11 two leaves o1 joined by congruence
     ∷ record {
       input = "01000100\n" ++ "01000100\n" ++ "030000000100000000\n" ++ "0400000001\n";
@@ -104,10 +104,10 @@ rows =
       expected = "refused 7 line 5\n";
     }
     -- E6 terms still open at the end, E7 no line feed at the end
-    ∷ record { input = tables ++ first; expected = "refused 2 line 9\n" }
-    ∷ record { input = tables ++ "0400020003"; expected = "refused 1 line 8\n" }
+    ∷ record { input = tableLines ++ first; expected = "refused 2 line 9\n" }
+    ∷ record { input = tableLines ++ "0400020003"; expected = "refused 1 line 8\n" }
     -- E8 a refused query, and the run goes on
-    ∷ record { input = tables ++ "0400000002\n" ++ "0400010001\n"; expected = "refused 9 line 8\n" ++ "distance 0\n" ++ "o2\n" }
+    ∷ record { input = tableLines ++ "0400000002\n" ++ "0400010001\n"; expected = "refused 9 line 8\n" ++ "distance 0\n" ++ "o2\n" }
     -- E9 a backward connection, walked from current to next and the other way
     ∷ record {
       input = "01000100\n" ++ "01000200\n" ++ "030000000101000700\n" ++ "0400000001\n" ++ "0400010000\n";

@@ -17,9 +17,9 @@ use Rattle.model.specs.Verdict.{verdict}
 use Rattle.model.specs.Node.{Node, addNode}
 use Rattle.model.specs.Connect.{addConnection}
 use Rattle.model.specs.Flat.{flatProof}
-use Rattle.model.specs.Query.{Tables, noTables, answer}
+use Rattle.model.specs.Query.{Tables, noTables, proofOf, answer}
 use Rattle.model.specs.Text.{bytes, digits, lines}
-use Rattle.model.specs.Frame.{lineBytes, Frame, node, rule, connection, query, offered, close, unknown, Pair, frameOf}
+use Rattle.model.specs.Frame.{noKind, nodeKind, ruleKind, connectionKind, queryKind, wordsKind, endKind, lineBytes, Frame, node, rule, connection, query, offered, close, unknown, NodePair, frameOf}
 
 -- What the run keeps from line to line: the kind of the last frame, the tables, and the words of the proof that is open.
 pub record State : Type 0 where
@@ -28,7 +28,7 @@ pub record State : Type 0 where
   pub open-words : List ℕ
 
 abbrev pub start : State
-start = record { kind = 0; tables = noTables; open-words = [] }
+start = record { kind = noKind; tables = noTables; open-words = [] }
 
 -- What a line gives: what is printed, and the state for the next; or a refusal that ends the run.
 pub data Turn : Type 0 where
@@ -36,49 +36,49 @@ pub data Turn : Type 0 where
   stop : ℕ → Turn
 
 -- "printing `refused N line L`"
-unfoldable pub refused : ℕ → ℕ → List ℕ
+unfoldable pub refusalText : ℕ → ℕ → List ℕ
 unfolding bytes digits
-refused n l = bytes "refused " ++ (digits n ++ (bytes " line " ++ (digits l ++ bytes "\n")))
+refusalText n l = bytes "refused " ++ (digits n ++ (bytes " line " ++ (digits l ++ bytes "\n")))
 
 -- "An answered query prints `distance D`, then each term on a line of its own. A refused query prints the same" as above
-unfoldable pub answered : Tables → Pair → ℕ → Answer → List ℕ
-unfolding bytes digits lines flatProof refused
-answered t p l (Written d w) =
-    bytes "distance " ++ (digits d ++ (bytes "\n" ++ lines (flatProof (t .nodes) (t .conns) (p .left) (p .right))))
-answered t p l (Refused n) = refused n l
+unfoldable pub answerText : Tables → NodePair → ℕ → Answer → List ℕ
+unfolding bytes digits lines flatProof refusalText
+answerText t p l (Written d w) =
+    bytes "distance " ++ (digits d ++ (bytes "\n" ++ lines (proofOf t (p .left) (p .right))))
+answerText t p l (Refused n) = refusalText n l
 
 -- "A verdict prints `accepted T` (terms) or `rejected N term K`."
-unfoldable pub judged : Verdict → List ℕ
+unfoldable pub verdictText : Verdict → List ℕ
 unfolding bytes digits
-judged (Accepted n) = bytes "accepted " ++ (digits n ++ bytes "\n")
-judged (Rejected n k) = bytes "rejected " ++ (digits n ++ (bytes " term " ++ (digits k ++ bytes "\n")))
+verdictText (Accepted n) = bytes "accepted " ++ (digits n ++ bytes "\n")
+verdictText (Rejected n k) = bytes "rejected " ++ (digits n ++ (bytes " term " ++ (digits k ++ bytes "\n")))
 
 -- an entry of a table: nothing is printed
-abbrev pub withNodes : State → Judged (List Node) → Turn
-withNodes s (bad n) = stop n
-withNodes s (good ns) =
-    go [] (record { kind = 1; tables = record { nodes = ns; rules = s .tables .rules; conns = s .tables .conns }; open-words = [] })
+abbrev pub nodeTurn : State → Judged (List Node) → Turn
+nodeTurn s (bad n) = stop n
+nodeTurn s (good ns) =
+    go [] (record { kind = nodeKind; tables = record { nodes = ns; rules = s .tables .rules; conns = s .tables .conns }; open-words = [] })
 
-abbrev pub withRules : State → Judged (List Rule) → Turn
-withRules s (bad n) = stop n
-withRules s (good rs) =
-    go [] (record { kind = 2; tables = record { nodes = s .tables .nodes; rules = rs; conns = s .tables .conns }; open-words = [] })
+abbrev pub ruleTurn : State → Judged (List Rule) → Turn
+ruleTurn s (bad n) = stop n
+ruleTurn s (good rs) =
+    go [] (record { kind = ruleKind; tables = record { nodes = s .tables .nodes; rules = rs; conns = s .tables .conns }; open-words = [] })
 
-abbrev pub withConnections : State → Judged (List Connection) → Turn
-withConnections s (bad n) = stop n
-withConnections s (good cs) =
-    go [] (record { kind = 3; tables = record { nodes = s .tables .nodes; rules = s .tables .rules; conns = cs }; open-words = [] })
+abbrev pub connectionTurn : State → Judged (List Connection) → Turn
+connectionTurn s (bad n) = stop n
+connectionTurn s (good cs) =
+    go [] (record { kind = connectionKind; tables = record { nodes = s .tables .nodes; rules = s .tables .rules; conns = cs }; open-words = [] })
 
-abbrev pub queried : State → ℕ → Option Pair → Turn
+abbrev pub queried : State → ℕ → Option NodePair → Turn
 queried s l none = stop 2
 queried s l (some p) =
-    go (answered (s .tables) p l (answer (s .tables) programArea (p .left) (p .right)))
-    (record { kind = 4; tables = s .tables; open-words = [] })
+    go (answerText (s .tables) p l (answer (s .tables) programArea (p .left) (p .right)))
+    (record { kind = queryKind; tables = s .tables; open-words = [] })
 
 -- "an offered proof that outgrows the area (11)"
 abbrev pub openedIf : Bool → State → List ℕ → Turn
 openedIf true s ws = stop 11
-openedIf false s ws = go [] (record { kind = 5; tables = s .tables; open-words = ws })
+openedIf false s ws = go [] (record { kind = wordsKind; tables = s .tables; open-words = ws })
 
 abbrev pub opened : State → Option (List ℕ) → Turn
 opened s none = stop 2
@@ -86,62 +86,65 @@ opened s (some ws) = openedIf (ltb programArea (length (s .open-words) + length 
 
 abbrev pub closed : State → Bool → Turn
 closed s false = stop 2
-closed s true = go (judged (verdict (s .tables .rules) (s .open-words))) (record { kind = 6; tables = s .tables; open-words = [] })
+closed s true = go (verdictText (verdict (s .tables .rules) (s .open-words))) (record { kind = endKind; tables = s .tables; open-words = [] })
 
-unfoldable pub turn : State → ℕ → Frame → Turn
-unfolding addNode addRule addConnection answer answered judged verdict
-turn s l (node e) = withNodes s (addNode (s .tables .nodes) e)
-turn s l (rule e) = withRules s (addRule (s .tables .rules) e)
-turn s l (connection e) = withConnections s (addConnection (s .tables .nodes) (s .tables .conns) e)
-turn s l (query p) = queried s l p
-turn s l (offered ws) = opened s ws
-turn s l (close b) = closed s b
-turn s l unknown = stop 2
+unfoldable pub frameTurn : State → ℕ → Frame → Turn
+unfolding addNode addRule addConnection answer answerText verdictText verdict
+frameTurn s l (node e) = nodeTurn s (addNode (s .tables .nodes) e)
+frameTurn s l (rule e) = ruleTurn s (addRule (s .tables .rules) e)
+frameTurn s l (connection e) = connectionTurn s (addConnection (s .tables .nodes) (s .tables .conns) e)
+frameTurn s l (query p) = queried s l p
+frameTurn s l (offered ws) = opened s ws
+frameTurn s l (close b) = closed s b
+frameTurn s l unknown = stop 2
 
 -- "Kinds never go down, but 05 and 06 may follow 06."
 unfoldable pub inOrder : ℕ → ℕ → Bool
-inOrder last kind = leb last kind || (eqb last 6 && eqb kind 5)
+inOrder last kind = leb last kind || (eqb last endKind && eqb kind wordsKind)
 
 abbrev pub turnIf : Bool → State → ℕ → Frame → Turn
-turnIf true s l f = turn s l f
+turnIf true s l f = frameTurn s l f
 turnIf false s l f = stop 2
 
 -- one line: 1, then 2 for an unknown kind or one out of order, then what the frame gives
 unfoldable pub lineTurn : State → ℕ → Option (List ℕ) → Turn
-unfolding turn inOrder frameOf
+unfolding frameTurn inOrder frameOf
 lineTurn s l none = stop 1
 lineTurn s l (some []) = stop 1
 lineTurn s l (some (k ∷ bs)) = turnIf (inOrder (s .kind) k) s l (frameOf k bs)
 
+abbrev pub lineFeed : ℕ
+lineFeed = 10
+
 -- the input's lines, and what stands behind the last line feed
-pub record Lines : Type 0 where
+pub record InputLines : Type 0 where
   pub whole : List (List ℕ)
   pub rest : List ℕ
 
-abbrev pub lineFront : ℕ → List (List ℕ) → List ℕ → Lines
+abbrev pub lineFront : ℕ → List (List ℕ) → List ℕ → InputLines
 lineFront b [] rest = record { whole = []; rest = b ∷ rest }
 lineFront b (l ∷ ls) rest = record { whole = (b ∷ l) ∷ ls; rest = rest }
 
-abbrev pub byteOn : Bool → ℕ → Lines → Lines
+abbrev pub byteOn : Bool → ℕ → InputLines → InputLines
 byteOn true b p = record { whole = [] ∷ p .whole; rest = p .rest }
 byteOn false b p = lineFront b (p .whole) (p .rest)
 
-unfoldable pub split : List ℕ → Lines
+unfoldable pub split : List ℕ → InputLines
 split [] = record { whole = []; rest = [] }
-split (b ∷ bs) = byteOn (eqb b 10) b (split bs)
+split (b ∷ bs) = byteOn (eqb b lineFeed) b (split bs)
 
 -- at the end of the input, on line l: a line that "lacks its line feed" is 1; "Input that ends with terms still open: 2, on
 -- the line after the last"
 unfoldable pub atEnd : State → ℕ → List ℕ → List ℕ
-unfolding refused
-atEnd s l (b ∷ bs) = refused 1 l
-atEnd s l [] = elim (eqb (s .kind) 5) [ true ↦ refused 2 l | false ↦ [] ]
+unfolding refusalText
+atEnd s l (b ∷ bs) = refusalText 1 l
+atEnd s l [] = elim (eqb (s .kind) wordsKind) [ true ↦ refusalText 2 l | false ↦ [] ]
 
 unfoldable pub run : State → ℕ → List (List ℕ) → List ℕ → List ℕ
-unfolding lineTurn atEnd lineBytes refused
+unfolding lineTurn atEnd lineBytes refusalText
 run s l [] rest = atEnd s l rest
 run s l (x ∷ xs) rest =
-    elim (lineTurn s l (lineBytes x)) [ go out s′ ↦ out ++ run s′ (suc l) xs rest | stop n ↦ refused n l ]
+    elim (lineTurn s l (lineBytes x)) [ go out s′ ↦ out ++ run s′ (suc l) xs rest | stop n ↦ refusalText n l ]
 
 -- "lines from 1"
 unfoldable pub output : List ℕ → List ℕ

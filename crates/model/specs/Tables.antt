@@ -1,8 +1,6 @@
 -- Tables handed in whole, as words: "judged before all else, as their frames would be".
--- A node is 10 words: operator, count, eight child slots. A rule is 387: number, left items, right items, 64 and 64 slots of
--- 3 words (kind, variable or operator, count). A connection is 5: current, next, kind, rule, forward, as in its frame.
 -- Slots that a count leaves unused, and a variable's count, play no part.
-use Prim.Native.Nat.{ℕ, zero, suc, _+_, _*_, _/_}
+use Prim.Native.Nat.{ℕ, zero, suc, _+_, _-_, _*_, _/_}
 use mathlib.Core.Bool.{Bool, true, false, _&&_}
 use mathlib.Core.List.{List, [], _∷_}
 use mathlib.Core.Option.{Option, none, some}
@@ -15,6 +13,8 @@ use Rattle.model.specs.declared.Direction.{Direction}
 use Rattle.model.specs.declared.Direction.the-variants.{Forward, Backward}
 use Rattle.model.specs.declared.Justification.{Justification}
 use Rattle.model.specs.declared.Justification.the-variants.{Rule as byRule, Congruence}
+use Rattle.model.specs.declared.Measured.{Measured}
+use Rattle.model.specs.declared.Measured.the-variants.{Unmeasured}
 use Rattle.model.specs.declared.Verdict.{Verdict}
 use Rattle.model.specs.declared.Verdict.the-variants.{Rejected}
 use Rattle.model.specs.Limits.{childLimit, itemLimit}
@@ -24,7 +24,47 @@ use Rattle.model.specs.Rule.{Rule, side, ruleOf, addRule}
 use Rattle.model.specs.Verdict.{verdict}
 use Rattle.model.specs.Node.{Node, addNode}
 use Rattle.model.specs.Connect.{addConnection}
-use Rattle.model.specs.Query.{Tables, answer, areaAfter}
+use Rattle.model.specs.Query.{Tables, measure, answer, areaAfter}
+
+-- How an entry lies. A node: operator, count, and a slot for each of eight children.
+abbrev pub childrenAt : ℕ
+childrenAt = 2
+
+abbrev pub nodeWords : ℕ
+nodeWords = childrenAt + childLimit
+
+-- A rule: number, left items, right items, then 64 slots for the left side's items and 64 for the right's, each of three words
+-- (kind, variable or operator, count).
+abbrev pub itemWords : ℕ
+itemWords = 3
+
+abbrev pub sideWords : ℕ
+sideWords = itemWords * itemLimit
+
+abbrev pub leftAt : ℕ
+leftAt = 3
+
+abbrev pub rightAt : ℕ
+rightAt = leftAt + sideWords
+
+abbrev pub ruleWords : ℕ
+ruleWords = rightAt + sideWords
+
+-- A connection: current, next, kind, rule, forward, as in its frame.
+abbrev pub nextAt : ℕ
+nextAt = 1
+
+abbrev pub whyAt : ℕ
+whyAt = 2
+
+abbrev pub byRuleAt : ℕ
+byRuleAt = 3
+
+abbrev pub forwardAt : ℕ
+forwardAt = 4
+
+abbrev pub connectionWords : ℕ
+connectionWords = 5
 
 -- what there is, if a condition holds
 module _ {A : Type 0} where
@@ -40,11 +80,15 @@ wordsFrom ws at (suc n) = getD ws at 0 ∷ wordsFrom ws (suc at) n
 -- entry i of a table, if it stands there whole and its fields are in their sets
 unfoldable pub nodeAt : List ℕ → ℕ → Node
 unfolding wordsFrom
-nodeAt ws i = record { op = getD ws (i * 10) 0; kids = wordsFrom ws (i * 10 + 2) (getD ws (i * 10 + 1) 0) }
+nodeAt ws i =
+    let at = i * nodeWords in
+    record { op = getD ws at 0; kids = wordsFrom ws (at + childrenAt) (getD ws (at + 1) 0) }
 
 unfoldable pub nodeEntry : List ℕ → ℕ → Option Node
 unfolding nodeAt
-nodeEntry ws i = onlyIf (leb (i * 10 + 10) (length ws) && leb (getD ws (i * 10 + 1) 0) childLimit) (some (nodeAt ws i))
+nodeEntry ws i =
+    let at = i * nodeWords in
+    onlyIf (leb (at + nodeWords) (length ws) && leb (getD ws (at + 1) 0) childLimit) (some (nodeAt ws i))
 
 -- "field outside its set": an item's kind
 abbrev pub itemOf : ℕ → ℕ → ℕ → Option Item
@@ -59,7 +103,7 @@ itemFront (some i) (some is) = some (i ∷ is)
 
 unfoldable pub itemsFrom : List ℕ → ℕ → ℕ → Option (List Item)
 itemsFrom ws at zero = some []
-itemsFrom ws at (suc n) = itemFront (itemOf (getD ws at 0) (getD ws (at + 1) 0) (getD ws (at + 2) 0)) (itemsFrom ws (at + 3) n)
+itemsFrom ws at (suc n) = itemFront (itemOf (getD ws at 0) (getD ws (at + 1) 0) (getD ws (at + 2) 0)) (itemsFrom ws (at + itemWords) n)
 
 abbrev pub sideBy : Bool → Option (List Item) → Option Patterns
 sideBy false is = none
@@ -70,15 +114,12 @@ unfoldable pub sideAt : List ℕ → ℕ → ℕ → Option Patterns
 unfolding itemsFrom side
 sideAt ws at n = sideBy (leb n itemLimit) (itemsFrom ws at n)
 
-abbrev pub ruleWords : ℕ
-ruleWords = 387
-
 unfoldable pub ruleEntry : List ℕ → ℕ → Option Rule
 unfolding sideAt
 ruleEntry ws i =
     let at = i * ruleWords in
     onlyIf (leb (at + ruleWords) (length ws))
-    (ruleOf (getD ws at 0) (sideAt ws (at + 3) (getD ws (at + 1) 0)) (sideAt ws (at + 195) (getD ws (at + 2) 0)))
+    (ruleOf (getD ws at 0) (sideAt ws (at + leftAt) (getD ws (at + 1) 0)) (sideAt ws (at + rightAt) (getD ws (at + 2) 0)))
 
 -- "kind 1: 0 congruence, 1 rule; rule 2, forward 1; both 0 for congruence"
 abbrev pub directionOf : ℕ → Option Direction
@@ -103,11 +144,16 @@ connectionOf c n (some w) = some (record { current = record { 0 = c }; next = re
 
 unfoldable pub connectionEntry : List ℕ → ℕ → Option Connection
 connectionEntry ws i =
-    onlyIf (leb (i * 5 + 5) (length ws))
-    (connectionOf (getD ws (i * 5) 0) (getD ws (i * 5 + 1) 0)
-    (whyOf (getD ws (i * 5 + 2) 0) (getD ws (i * 5 + 3) 0) (getD ws (i * 5 + 4) 0)))
+    let at = i * connectionWords in
+    onlyIf (leb (at + connectionWords) (length ws))
+    (connectionOf (getD ws at 0) (getD ws (at + nextAt) 0)
+    (whyOf (getD ws (at + whyAt) 0) (getD ws (at + byRuleAt) 0) (getD ws (at + forwardAt) 0)))
 
--- A table, entry by entry; "first bad entry decides". A part of an entry at the end counts as an entry.
+-- how many entries of a size stand in so many words; a part of an entry at the end counts as an entry
+abbrev pub entriesIn : ℕ → ℕ → ℕ
+entriesIn size n = (n + (size - 1)) / size
+
+-- A table, entry by entry; "first bad entry decides".
 module _ {A E : Type 0} (add : A → Option E → Judged A) (entry : ℕ → Option E) (start : A) where
   abbrev pub andAdd : Judged A → Option E → Judged A
   andAdd (bad n) e = bad n
@@ -119,15 +165,15 @@ module _ {A E : Type 0} (add : A → Option E → Judged A) (entry : ℕ → Opt
 
 unfoldable pub nodeTable : List ℕ → Judged (List Node)
 unfolding entries nodeEntry addNode
-nodeTable ws = entries addNode (nodeEntry ws) [] ((length ws + 9) / 10)
+nodeTable ws = entries addNode (nodeEntry ws) [] (entriesIn nodeWords (length ws))
 
 unfoldable pub ruleTable : List ℕ → Judged (List Rule)
 unfolding entries ruleEntry addRule
-ruleTable ws = entries addRule (ruleEntry ws) [] ((length ws + 386) / 387)
+ruleTable ws = entries addRule (ruleEntry ws) [] (entriesIn ruleWords (length ws))
 
 unfoldable pub connectionTable : List Node → List ℕ → Judged (List Connection)
 unfolding entries connectionEntry addConnection
-connectionTable ns ws = entries (addConnection ns) (connectionEntry ws) [] ((length ws + 4) / 5)
+connectionTable ns ws = entries (addConnection ns) (connectionEntry ws) [] (entriesIn connectionWords (length ws))
 
 -- "nodes, rules, connections; first bad entry decides"
 abbrev pub withConnections : List Node → List Rule → Judged (List Connection) → Judged Tables
@@ -142,11 +188,15 @@ abbrev pub withNodes : Judged (List Node) → Judged (List Rule) → (List Node 
 withNodes (bad n) rs cs = bad n
 withNodes (good ns) rs cs = withRules ns rs (cs ns)
 
-unfoldable pub tables : List ℕ → List ℕ → List ℕ → Judged Tables
+unfoldable pub judgeTables : List ℕ → List ℕ → List ℕ → Judged Tables
 unfolding nodeTable ruleTable connectionTable
-tables nws rws cws = withNodes (nodeTable nws) (ruleTable rws) (λ ns. connectionTable ns cws)
+judgeTables nws rws cws = withNodes (nodeTable nws) (ruleTable rws) (λ ns. connectionTable ns cws)
 
 -- "a query or check over bad ones returns that number, otherwise as its own refusals do, place 0"
+abbrev pub measureBy : Judged Tables → ℕ → ℕ → Measured
+measureBy (bad n) l r = Unmeasured n
+measureBy (good t) l r = measure t l r
+
 abbrev pub answerBy : Judged Tables → ℕ → ℕ → ℕ → Answer
 answerBy (bad n) area l r = Refused n
 answerBy (good t) area l r = answer t area l r

@@ -7,12 +7,13 @@ use mathlib.Core.Option.{Option, none, some}
 use mathlib.Core.Path.{_≡_}
 use lib.Dec.{leb, eqb}
 use Rattle.model.specs.Limits.{childLimit}
+use Rattle.model.specs.declared.Direction.{Direction}
+use Rattle.model.specs.declared.Direction.the-variants.{Forward, Backward}
 
--- "mark (0 none, 1 forward, 2 backward), rule (0 if unmarked)": an unmarked node has no rule
+-- "mark (0 none, 1 forward, 2 backward), rule (0 if unmarked)": a mark is a direction and a rule, and an unmarked node has neither
 pub data Mark : Type 0 where
   unmarked : Mark
-  forward : ℕ → Mark
-  backward : ℕ → Mark
+  marked : Direction → ℕ → Mark
 
 -- a row of terms: none, or a term (operator, mark and children) and the row behind it
 pub data Terms : Type 0 where
@@ -55,15 +56,17 @@ Narrow noTerms = Unit {0}
 Narrow (tree o m k s) = (count k ≤ childLimit) × Narrow k × Narrow s
 
 -- "16-bit words, four a tree node in preorder: operator, child count, mark, rule"
+abbrev pub directionWord : Direction → ℕ
+directionWord Forward = 1
+directionWord Backward = 2
+
 abbrev pub markWord : Mark → ℕ
 markWord unmarked = 0
-markWord (forward r) = 1
-markWord (backward r) = 2
+markWord (marked d r) = directionWord d
 
 abbrev pub ruleWord : Mark → ℕ
 ruleWord unmarked = 0
-ruleWord (forward r) = r
-ruleWord (backward r) = r
+ruleWord (marked d r) = r
 
 unfoldable pub words : Terms → List ℕ
 words noTerms = []
@@ -83,8 +86,8 @@ pub record Reads (ws : List ℕ) (f : Terms) : Type 0 where
 abbrev pub markOf : ℕ → ℕ → Option Mark
 markOf zero zero = some unmarked
 markOf zero (suc r) = none
-markOf (suc zero) r = some (forward r)
-markOf (suc (suc zero)) r = some (backward r)
+markOf (suc zero) r = some (marked Forward r)
+markOf (suc (suc zero)) r = some (marked Backward r)
 markOf (suc (suc (suc m))) r = none
 
 -- a row cut behind its first c terms, if it has as many
@@ -129,16 +132,17 @@ read (o ∷ c ∷ m ∷ r ∷ ws) = over o c (markOf m r) (read ws)
 abbrev pub sameOp : ℕ → ℕ → Bool
 sameOp o o′ = eqb o o′
 
+abbrev pub sameDirection : Direction → Direction → Bool
+sameDirection Forward Forward = true
+sameDirection Forward Backward = false
+sameDirection Backward Forward = false
+sameDirection Backward Backward = true
+
 abbrev pub sameMark : Mark → Mark → Bool
 sameMark unmarked unmarked = true
-sameMark unmarked (forward n) = false
-sameMark unmarked (backward n) = false
-sameMark (forward r) unmarked = false
-sameMark (forward r) (forward n) = eqb r n
-sameMark (forward r) (backward n) = false
-sameMark (backward r) unmarked = false
-sameMark (backward r) (forward n) = false
-sameMark (backward r) (backward n) = eqb r n
+sameMark unmarked (marked d n) = false
+sameMark (marked d r) unmarked = false
+sameMark (marked d r) (marked e n) = sameDirection d e && eqb r n
 
 -- whether two rows are equal, marks and all; lists of unequal length differ
 unfoldable pub same : Terms → Terms → Bool

@@ -9,14 +9,17 @@ use lib.Dec.{ltb}
 use lib.ListN.{length, replicate}
 use Rattle.model.specs.declared.Printed.{Printed}
 use Rattle.model.specs.declared.Printed.the-variants.{Bytes, NoText}
-use Rattle.model.specs.Term.{Mark, unmarked, forward, backward, Terms, noTerms, tree, read}
+use Rattle.model.specs.declared.Direction.{Direction}
+use Rattle.model.specs.declared.Direction.the-variants.{Forward, Backward}
+use Rattle.model.specs.Term.{Mark, unmarked, marked, Terms, noTerms, tree, read}
 
 -- the bytes of a text in ASCII
 unfoldable pub bytes : String → List ℕ
 bytes noText = []
 bytes (_then_ c s) = code c ∷ bytes s
 
--- a number in decimal digits, without leading zeros; d + 1 digits are enough for a number below 10 ^ (d + 1)
+-- a number in decimal digits, without leading zeros; d + 1 digits are enough for a number below 10 ^ (d + 1): here 20 digits, so
+-- every number of 64 bits
 unfoldable pub digitsBy : ℕ → ℕ → List ℕ
 digitsBy zero n = (48 + n % 10) ∷ []
 digitsBy (suc d) n = elim (ltb n 10) [ true ↦ (48 + n) ∷ [] | false ↦ digitsBy d (n / 10) ++ ((48 + n % 10) ∷ []) ]
@@ -31,13 +34,16 @@ spell o [] = o
 spell o (c ∷ cs) = bytes "(" ++ (o ++ ((c ∷ cs) ++ bytes ")"))
 
 -- "the marks are spelled `Rewrite=>` and `Rewrite<=` byte for byte: `(Rewrite=> r7 o2)`"
+abbrev pub markName : Direction → List ℕ
+markName Forward = bytes "Rewrite=>"
+markName Backward = bytes "Rewrite<="
+
 abbrev pub markText : List ℕ → ℕ → List ℕ → List ℕ
 markText word r t = bytes "(" ++ (word ++ (bytes " r" ++ (digits r ++ (bytes " " ++ (t ++ bytes ")")))))
 
 abbrev pub withMark : Mark → List ℕ → List ℕ
 withMark unmarked t = t
-withMark (forward r) t = markText (bytes "Rewrite=>") r t
-withMark (backward r) t = markText (bytes "Rewrite<=") r t
+withMark (marked d r) t = markText (markName d) r t
 
 -- the text of each term of a row, with something before it and something behind
 unfoldable pub texts : List ℕ → List ℕ → Terms → List ℕ

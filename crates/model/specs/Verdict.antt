@@ -6,18 +6,19 @@ use mathlib.Core.Option.{Option, none, some}
 use mathlib.Core.Path.{_≡_}
 use lib.Dec.{ltb}
 use lib.ListN.{length}
+use Rattle.model.specs.declared.Direction.the-variants.{Forward, Backward}
 use Rattle.model.specs.declared.Verdict.{Verdict}
 use Rattle.model.specs.declared.Verdict.the-variants.{Accepted, Rejected}
 use Rattle.model.specs.Limits.{termLimit, wordLimit}
 use Rattle.model.specs.Term.{Terms, noTerms, tree, count, read, Reads}
 use Rattle.model.specs.Rule.{Rule}
-use Rattle.model.specs.Step.{Step, step, someMark, isMark, isForward, isBackward, nested, unlisted}
+use Rattle.model.specs.Step.{Step, step, someMark, isMark, goes, nested, unlisted}
 
 -- "each later term arises from the one before by instances of listed rules at its marked places (one or more, none inside
 -- another, all in one marked direction) and is the same elsewhere"
 pub record Later (rs : List Rule) (s t : Terms) : Type 0 where
   pub someMarks : someMark isMark t ≡ true
-  pub oneWay : (someMark isForward t && someMark isBackward t) ≡ false
+  pub oneWay : (someMark (goes Forward) t && someMark (goes Backward) t) ≡ false
   pub apart : nested t ≡ false
   pub arises : Step rs s t
 
@@ -49,7 +50,7 @@ rejectIf false n k v = v
 unfoldable pub laterVerdict : List Rule → ℕ → Terms → Terms → Verdict → Verdict
 unfolding step someMark nested unlisted
 laterVerdict rs k s t v =
-    rejectIf (not (someMark isMark t) || (someMark isForward t && someMark isBackward t)) 15 k
+    rejectIf (not (someMark isMark t) || (someMark (goes Forward) t && someMark (goes Backward) t)) 15 k
     (rejectIf (nested t) 18 k
     (rejectIf (unlisted rs t) 16 k
     (rejectIf (not (step rs s t)) 17 k v)))

@@ -1,4 +1,9 @@
-// The types that document 01 names. What they mean is said in specs/; this crate has no function.
+// The types that document 01 names, its limits, and three functions that every room has: a word as a count, a word of an entry, and
+// what makes two nodes the same operator. What the types mean is said in specs/.
+ghost use mathlib.Core.Path.{_≡_};
+ghost use Prim.Native.Nat.{_+_, _<_};
+ghost use lib.ListN.{length, getD};
+ghost use Rattle.model.specs.Term.{sameOp};
 
 // Node, rule and operator numbers are three kinds that must never be exchanged.
 pub struct NodeNo(pub u16);
@@ -49,6 +54,12 @@ pub enum Verdict {
     Rejected(u16, usize),
 }
 
+// What the distance of a pair answers: the distance, or the number of a refusal.
+pub enum Measured {
+    Distance(usize),
+    Unmeasured(u16),
+}
+
 // What a query answers: the distance and the words written, or the number of a refusal.
 pub enum Answer {
     Written(usize, usize),
@@ -86,3 +97,25 @@ pub const RULE_WORDS: usize = 387;
 pub const SIDE_WORDS: usize = 192;
 
 pub const CONNECTION_WORDS: usize = 5;
+
+// A word as a count or a place.
+pub fn wide(x: u16) -> usize
+    ensures { λ r. ⌜ r ≡ x ⌝ }
+{
+    x as usize
+}
+
+// A word of an entry that starts at a base.
+pub fn word(words: &[u16], base: usize, k: usize) -> u16
+    requires { ⌜ base + k < length (now words) ⌝ }
+    ensures { λ r. ⌜ r ≡ getD (now (words .entry)) (base + k) 0 ⌝ }
+{
+    words[base + k]
+}
+
+// What makes two nodes the same operator.
+pub fn same_op(a: OpNo, b: OpNo) -> bool
+    ensures { λ r. ⌜ r ≡ sameOp (a .0) (b .0) ⌝ }
+{
+    a.0 == b.0
+}

@@ -17,13 +17,13 @@ use Rattle.model.specs.Node.{Node, noNode, opOf, kidsOf, row, termOf}
 use Rattle.model.specs.Forest.{root}
 use Rattle.model.specs.Flat.{markFor, markedTerm, runs, appended as appends, later, flatProof}
 use Rattle.terms.proofs.Rows.{join-assoc, join-none}
-use Rattle.forest.specs.Hangs.{Accepted, Paired}
-use Rattle.forest.proofs.Accept.{paired-length}
-use Rattle.writer.specs.Ends.{lastOr, last}
-use Rattle.writer.specs.Nodes.{AcceptedNodes}
-use Rattle.writer.proofs.NodeTerms.{term-is, term-strip}
-use Rattle.writer.proofs.Twins.{Twins}
-use Rattle.writer.proofs.Way.{way}
+use Rattle.paths.specs.Hangs.{Accepted, Paired}
+use Rattle.paths.proofs.Accept.{paired-length}
+use Rattle.flat.specs.Ends.{lastOr, last}
+use Rattle.flat.specs.Nodes.{AcceptedNodes}
+use Rattle.flat.proofs.NodeTerms.{term-is, term-strip}
+use Rattle.flat.proofs.Twins.{Twins}
+use Rattle.flat.proofs.Way.{way}
 use Rattle.rust.specs.Panics.{_>>=_}
 use Rattle.rust.specs.Explain.{rule, congruence, justified, isForward, goesForward}
 use Rattle.rust.specs.Flatten.{Trees, noTrees, treeTerm, Proofs, noProofs, proofOf, Flats, noFlats, flatTerm, firstOf, skipOne, extend, lastOf, dropLast, hasForward, hasBackward, combineRewrites, appended, flattenExplanation, flattenProof, flattenChildren}

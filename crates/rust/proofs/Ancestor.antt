@@ -12,10 +12,10 @@ use lib.ListN.{length}
 use Rattle.model.specs.declared.Connection.{Connection}
 use Rattle.model.specs.Node.{Node}
 use Rattle.model.specs.Forest.{root}
-use Rattle.forest.specs.Hangs.{nextOf, depth, Forest, Accepted}
-use Rattle.forest.proofs.Accept.{accepted-forest}
-use Rattle.forest.proofs.Places.{high, low, place}
-use Rattle.forest.proofs.Ways.{climbBy, Lowest, root-climb}
+use Rattle.paths.specs.Hangs.{nextOf, depth, Forest, Accepted}
+use Rattle.paths.proofs.Accept.{accepted-forest}
+use Rattle.paths.proofs.Places.{high, low, place}
+use Rattle.paths.proofs.Ways.{climbBy, Lowest, root-climb}
 use Rattle.rust.specs.Panics.{_>>_, assert}
 use Rattle.rust.specs.Explain.{Explain}
 use Rattle.rust.specs.Paths.{contains, differ, commonAncestor}

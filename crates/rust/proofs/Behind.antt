@@ -8,10 +8,10 @@ use lib.ListN.{length}
 use Rattle.model.specs.declared.Connection.{Connection}
 use Rattle.model.specs.Node.{Node}
 use Rattle.model.specs.Forest.{root, walk, below, parentOf}
-use Rattle.forest.specs.Hangs.{nextOf, depth, Forest, Accepted}
-use Rattle.forest.proofs.Laws.{root-old, walk-old, parent-old, no-parent}
-use Rattle.forest.proofs.Places.{Place, high, low, place, next-below}
-use Rattle.forest.proofs.Ways.{climbBy}
+use Rattle.paths.specs.Hangs.{nextOf, depth, Forest, Accepted}
+use Rattle.paths.proofs.Laws.{root-old, walk-old, parent-old, no-parent}
+use Rattle.paths.proofs.Places.{Place, high, low, place, next-below}
+use Rattle.paths.proofs.Ways.{climbBy}
 
 pub data Behind (os : List Connection) : List Connection → Type 0 where
   all : Behind os os

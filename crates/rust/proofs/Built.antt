@@ -12,9 +12,9 @@ use lib.ListN.{length, set, getElem?, length-append, length-set}
 use Rattle.model.specs.declared.Connection.{Connection as TableConnection}
 use Rattle.model.specs.Node.{Node}
 use Rattle.model.specs.Forest.{cur, nxt, root, Parent, top, below, parentOf}
-use Rattle.forest.specs.Hangs.{Accepted, Sound}
-use Rattle.forest.proofs.Accept.{sound}
-use Rattle.forest.proofs.Laws.{parent-new, parent-old}
+use Rattle.paths.specs.Hangs.{Accepted, Sound}
+use Rattle.paths.proofs.Accept.{sound}
+use Rattle.paths.proofs.Laws.{parent-new, parent-old}
 use Rattle.rust.specs.Panics.{_>>=_, counted}
 use Rattle.rust.specs.Explain.{Connection, ExplainNode, Memoed, Explain, alone, makeLeader, pushNeighbor, setParent, remember, union, justified, goesForward, explainOf}
 use Rattle.rust.specs.Read.{up, down}

@@ -8,9 +8,9 @@ use Rattle.model.specs.Term.{Mark, unmarked, Terms, noTerms, tree, count, join,
 use Rattle.model.specs.Node.{Node, row, termOf}
 use Rattle.model.specs.Flat.{within, runs}
 use Rattle.terms.proofs.Rows.{join-assoc, join-none, count-join}
-use Rattle.writer.specs.Ends.{lastOr, last, Leads}
-use Rattle.writer.proofs.NodeTerms.{term-strip}
-use Rattle.writer.proofs.Within.{last-join}
+use Rattle.flat.specs.Ends.{lastOr, last, Leads}
+use Rattle.flat.proofs.NodeTerms.{term-strip}
+use Rattle.flat.proofs.Within.{last-join}
 use Rattle.rust.specs.Panics.{_>>=_}
 use Rattle.rust.specs.Flatten.{Flats, noFlats, flatTerm, firstOf, skipOne, lastOf, dropLast, extend, removeRewrites, setTerm, setChild, representatives, pushed, childLoop, setRules, flattenExplanation}
 use Rattle.rust.proofs.Vectors.{on}

@@ -13,10 +13,10 @@ use lib.ListN.{length, getElem?}
 use Rattle.model.specs.declared.Connection.{Connection}
 use Rattle.model.specs.Node.{Node}
 use Rattle.model.specs.Forest.{cur, nxt, Parent, top, below, parentOf}
-use Rattle.forest.specs.Hangs.{nextOf, depth, Forest, Accepted}
-use Rattle.forest.proofs.Accept.{accepted-forest}
-use Rattle.forest.proofs.Places.{high, low, place, next-below}
-use Rattle.forest.proofs.Ways.{climbBy, next-high, depth-climb, hop, ups}
+use Rattle.paths.specs.Hangs.{nextOf, depth, Forest, Accepted}
+use Rattle.paths.proofs.Accept.{accepted-forest}
+use Rattle.paths.proofs.Places.{high, low, place, next-below}
+use Rattle.paths.proofs.Ways.{climbBy, next-high, depth-climb, hop, ups}
 use Rattle.rust.specs.Panics.{_>>=_}
 use Rattle.rust.specs.Explain.{Explain, Justification}
 use Rattle.rust.specs.Paths.{parentConnection, differ}

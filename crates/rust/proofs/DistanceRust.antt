@@ -14,13 +14,13 @@ use Rattle.model.specs.declared.Justification.{Justification}
 use Rattle.model.specs.declared.Justification.the-variants.{Rule as byRule, Congruence}
 use Rattle.model.specs.Node.{Node, noNode, kidsOf}
 use Rattle.model.specs.Forest.{cur, nxt, root, walk, dist, costBy, sumPairs, below, parentOf}
-use Rattle.forest.specs.Hangs.{nextOf, depth, Forest, Accepted, Paired}
-use Rattle.forest.proofs.Joined.{dist-self}
-use Rattle.forest.proofs.Bound.{depth-le}
-use Rattle.forest.proofs.Accept.{accepted-forest, sound, kin}
-use Rattle.forest.proofs.Places.{high, low, place}
-use Rattle.forest.proofs.Ways.{climbBy, depth-climb, Lowest, hop-low, ups, Meets, meets}
-use Rattle.writer.specs.Nodes.{AcceptedNodes}
+use Rattle.paths.specs.Hangs.{nextOf, depth, Forest, Accepted, Paired}
+use Rattle.paths.proofs.Joined.{dist-self}
+use Rattle.paths.proofs.Bound.{depth-le}
+use Rattle.paths.proofs.Accept.{accepted-forest, sound, kin}
+use Rattle.paths.proofs.Places.{high, low, place}
+use Rattle.paths.proofs.Ways.{climbBy, depth-climb, Lowest, hop-low, ups, Meets, meets}
+use Rattle.flat.specs.Nodes.{AcceptedNodes}
 use Rattle.rust.specs.Panics.{_>>=_}
 use Rattle.rust.specs.Explain.{Explain, justified}
 use Rattle.rust.specs.Distances.{Climbed, Found, unclimbed, treeDepth, childDistances, connectionDistance, calculateParentDistance, distanceBetween}

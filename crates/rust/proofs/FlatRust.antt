@@ -12,16 +12,16 @@ use Rattle.model.specs.Node.{Node, opOf, termOf}
 use Rattle.model.specs.Forest.{cur, nxt, root, Hop, path}
 use Rattle.model.specs.Flat.{laterStep, later, flatProof}
 use Rattle.terms.proofs.Rows.{join-assoc, join-none}
-use Rattle.forest.specs.Hangs.{Accepted}
-use Rattle.forest.proofs.Accept.{accepted-loose, sound}
-use Rattle.forest.proofs.Climbed.{hopOf}
-use Rattle.writer.specs.Ends.{lastOr, last, Leads}
-use Rattle.writer.specs.Nodes.{AcceptedNodes}
-use Rattle.writer.proofs.NodeTerms.{term-is, term-strip}
-use Rattle.writer.proofs.Within.{last-join, last-alike, leads-join}
-use Rattle.writer.proofs.Twins.{twins, twins-back}
-use Rattle.writer.proofs.Walked.{walked}
-use Rattle.writer.proofs.Way.{way-up, way-down}
+use Rattle.paths.specs.Hangs.{Accepted}
+use Rattle.paths.proofs.Accept.{accepted-loose, sound}
+use Rattle.paths.proofs.Climbed.{hopOf}
+use Rattle.flat.specs.Ends.{lastOr, last, Leads}
+use Rattle.flat.specs.Nodes.{AcceptedNodes}
+use Rattle.flat.proofs.NodeTerms.{term-is, term-strip}
+use Rattle.flat.proofs.Within.{last-join, last-alike, leads-join}
+use Rattle.flat.proofs.Twins.{twins, twins-back}
+use Rattle.flat.proofs.Walked.{walked}
+use Rattle.flat.proofs.Way.{way-up, way-down}
 use Rattle.rust.specs.Panics.{_>>=_}
 use Rattle.rust.specs.Explain.{Connection, Explain}
 use Rattle.rust.specs.Paths.{getPath, walked as walkedOf}

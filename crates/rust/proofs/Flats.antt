@@ -5,10 +5,11 @@ use mathlib.Core.Bool.{Bool, true, false, cond}
 use mathlib.Core.Option.{Option, none, some}
 use native.Mathlib.Omega.{arith}
 use borrow.Author.Tests.{eq-eqb, ne-eqb}
-use Rattle.model.specs.Term.{Mark, unmarked, forward, backward, Terms, noTerms, tree, count, join, strip}
+use Rattle.model.specs.declared.Direction.the-variants.{Forward, Backward}
+use Rattle.model.specs.Term.{Mark, unmarked, marked, Terms, noTerms, tree, count, join, strip}
 use Rattle.model.specs.Flat.{within}
 use Rattle.terms.proofs.Rows.{join-assoc, join-none, count-join}
-use Rattle.writer.specs.Ends.{lastOr, last}
+use Rattle.flat.specs.Ends.{lastOr, last}
 use Rattle.rust.specs.Panics.{_>>=_}
 use Rattle.rust.specs.Flatten.{Flats, noFlats, flatTerm, lastOf, dropLast, extend, hasForward, hasBackward, removeRewrites, combineRewrites, appended, setTerm, replaced, pushed}
 use Rattle.rust.specs.Read.{markOf, termsOf}
@@ -17,13 +18,13 @@ use Rattle.rust.proofs.Vectors.{on}
 -- a mark as backward_rule and forward_rule
 abbrev pub backRule : Mark → Option ℕ
 backRule unmarked = none
-backRule (forward n) = none
-backRule (backward n) = some n
+backRule (marked Forward n) = none
+backRule (marked Backward n) = some n
 
 abbrev pub foreRule : Mark → Option ℕ
 foreRule unmarked = none
-foreRule (forward n) = some n
-foreRule (backward n) = none
+foreRule (marked Forward n) = some n
+foreRule (marked Backward n) = none
 
 unfoldable pub flats : Terms → Flats
 flats noTerms = noFlats
@@ -31,8 +32,8 @@ flats (tree o m k s) = flatTerm o (backRule m) (foreRule m) (flats k) (flats s)
 
 mark-back : (m : Mark) → markOf (backRule m) (foreRule m) ≡ some m
 mark-back unmarked = refl
-mark-back (forward n) = refl
-mark-back (backward n) = refl
+mark-back (marked Forward n) = refl
+mark-back (marked Backward n) = refl
 
 pub read-back : (t : Terms) → termsOf (flats t) ≡ some t
 unfolding flats termsOf
@@ -86,8 +87,8 @@ pub combine-flats : (t : Terms) → combineRewrites (flats (strip t)) (flats t) 
 unfolding flats strip combineRewrites
 combine-flats noTerms = refl
 combine-flats (tree o unmarked k s) = on _ (combine-flats k) ∙ on _ (combine-flats s)
-combine-flats (tree o (forward n) k s) = on _ (combine-flats k) ∙ on _ (combine-flats s)
-combine-flats (tree o (backward n) k s) = on _ (combine-flats k) ∙ on _ (combine-flats s)
+combine-flats (tree o (marked Forward n) k s) = on _ (combine-flats k) ∙ on _ (combine-flats s)
+combine-flats (tree o (marked Backward n) k s) = on _ (combine-flats k) ∙ on _ (combine-flats s)
 
 -- a term of a row set, by its place
 pub set-flats : (b c s : Terms) (o : ℕ) (m : Mark) (k : Terms) →

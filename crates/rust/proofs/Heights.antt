@@ -12,8 +12,8 @@ use lib.ListN.{length, getElem?, set, length-set}
 use Rattle.model.specs.declared.Connection.{Connection}
 use Rattle.model.specs.Node.{Node}
 use Rattle.model.specs.Forest.{cur, nxt, walk, costBy, dist, Parent, top, below, parentOf}
-use Rattle.forest.specs.Hangs.{nextOf, depth, Forest}
-use Rattle.forest.proofs.Ways.{climbBy, depth-climb, hop, ups, downs}
+use Rattle.paths.specs.Hangs.{nextOf, depth, Forest}
+use Rattle.paths.proofs.Ways.{climbBy, depth-climb, hop, ups, downs}
 use Rattle.rust.specs.Distances.{Climbed, Found, setClimbed}
 use Rattle.rust.proofs.Vectors.{set-same, set-other}
 

@@ -11,12 +11,12 @@ use lib.ListN.{length}
 use Rattle.model.specs.declared.Connection.{Connection as TableConnection}
 use Rattle.model.specs.Node.{Node, kidsOf, allBelow}
 use Rattle.model.specs.Forest.{cur, nxt, Parent, top, below, parentOf}
-use Rattle.forest.specs.Hangs.{nextOf, Accepted}
-use Rattle.forest.proofs.Accept.{sound}
-use Rattle.forest.proofs.Laws.{parent-new, parent-old, no-parent}
-use Rattle.forest.proofs.Places.{next-below, next-top}
-use Rattle.forest.proofs.Ways.{climbBy}
-use Rattle.writer.specs.Nodes.{AcceptedNodes}
+use Rattle.paths.specs.Hangs.{nextOf, Accepted}
+use Rattle.paths.proofs.Accept.{sound}
+use Rattle.paths.proofs.Laws.{parent-new, parent-old, no-parent}
+use Rattle.paths.proofs.Places.{next-below, next-top}
+use Rattle.paths.proofs.Ways.{climbBy}
+use Rattle.flat.specs.Nodes.{AcceptedNodes}
 use Rattle.rust.specs.Explain.{Connection, Explain, alone}
 use Rattle.rust.specs.Paths.{parentConnection}
 use Rattle.rust.proofs.Vectors.{on}

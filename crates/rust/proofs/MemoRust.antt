@@ -13,11 +13,11 @@ use lib.ListN.{length}
 use Rattle.model.specs.declared.Connection.{Connection as TableConnection}
 use Rattle.model.specs.Node.{Node}
 use Rattle.model.specs.Forest.{cur, nxt, root, Hop, path}
-use Rattle.forest.specs.Hangs.{Accepted}
-use Rattle.forest.proofs.Accept.{sound}
-use Rattle.forest.proofs.Joined.{root-ends, path-old, path-self}
-use Rattle.forest.proofs.Laws.{root-old, walk-up, walk-down, walk-self}
-use Rattle.forest.proofs.Climbed.{hopOf}
+use Rattle.paths.specs.Hangs.{Accepted}
+use Rattle.paths.proofs.Accept.{sound}
+use Rattle.paths.proofs.Joined.{root-ends, path-old, path-self}
+use Rattle.paths.proofs.Laws.{root-old, walk-up, walk-down, walk-self}
+use Rattle.paths.proofs.Climbed.{hopOf}
 use Rattle.rust.specs.Panics.{_>>=_}
 use Rattle.rust.specs.Explain.{Justification, rule, congruence, Connection, Memoed, Explain, memoed, remember, justified}
 use Rattle.rust.specs.Paths.{isRule, neighborTo, getNeighbor, Path, getPathUnoptimized, getPath, turnedFrom, walked}

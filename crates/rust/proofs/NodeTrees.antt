@@ -8,9 +8,9 @@ use lib.ListN.{length}
 use Rattle.model.specs.Term.{Terms, noTerms, Term, join, one}
 use Rattle.model.specs.Node.{Node, noNode, opOf, kidsOf, row, termOf}
 use Rattle.model.specs.Flat.{within, runs}
-use Rattle.writer.specs.Ends.{lastOr}
-use Rattle.writer.specs.Nodes.{AcceptedNodes}
-use Rattle.writer.proofs.NodeTerms.{term-is}
+use Rattle.flat.specs.Ends.{lastOr}
+use Rattle.flat.specs.Nodes.{AcceptedNodes}
+use Rattle.flat.proofs.NodeTerms.{term-is}
 use Rattle.rust.specs.Panics.{_>>=_}
 use Rattle.rust.specs.Flatten.{noTrees, Proofs, noProofs, proofOf, Flats, noFlats, flatTerm, flattenExplanation, appended, flattenProof, flattenChildren}
 use Rattle.rust.specs.Trees.{TreeTerm, before, childExplanations, nodeToExplanation}

@@ -8,10 +8,10 @@ use lib.ListN.{length}
 use Rattle.model.specs.declared.Connection.{Connection}
 use Rattle.model.specs.Node.{Node}
 use Rattle.model.specs.Forest.{root, below, parentOf}
-use Rattle.forest.specs.Hangs.{depth, Accepted}
-use Rattle.forest.proofs.Accept.{accepted-forest}
-use Rattle.forest.proofs.Places.{high, low, place}
-use Rattle.forest.proofs.Ways.{climbBy, depth-climb, Lowest, meets}
+use Rattle.paths.specs.Hangs.{depth, Accepted}
+use Rattle.paths.proofs.Accept.{accepted-forest}
+use Rattle.paths.proofs.Places.{high, low, place}
+use Rattle.paths.proofs.Ways.{climbBy, depth-climb, Lowest, meets}
 use Rattle.rust.proofs.Behind.{Behind, accepted-behind, parent-behind, climb-behind}
 use Rattle.rust.proofs.Inside.{hung-by}
 use Rattle.rust.proofs.Trails.{lowest-any}

@@ -11,12 +11,12 @@ use lib.ListN.{length}
 use Rattle.model.specs.declared.Connection.{Connection as TableConnection}
 use Rattle.model.specs.Node.{Node}
 use Rattle.model.specs.Forest.{nxt, root, Hop, path}
-use Rattle.forest.specs.Hangs.{nextOf, depth, Forest, Accepted}
-use Rattle.forest.proofs.Accept.{accepted-forest}
-use Rattle.forest.proofs.Bound.{depth-le}
-use Rattle.forest.proofs.Places.{high, low, place}
-use Rattle.forest.proofs.Ways.{climbBy, depth-climb, hop-low, ups, downs, meets}
-use Rattle.forest.proofs.Climbed.{hopOf}
+use Rattle.paths.specs.Hangs.{nextOf, depth, Forest, Accepted}
+use Rattle.paths.proofs.Accept.{accepted-forest}
+use Rattle.paths.proofs.Bound.{depth-le}
+use Rattle.paths.proofs.Places.{high, low, place}
+use Rattle.paths.proofs.Ways.{climbBy, depth-climb, hop-low, ups, downs, meets}
+use Rattle.paths.proofs.Climbed.{hopOf}
 use Rattle.rust.specs.Panics.{_>>=_}
 use Rattle.rust.specs.Explain.{Connection, Explain}
 use Rattle.rust.specs.Paths.{connectionsFrom, getConnections, Path, getPathUnoptimized, turned, turnedFrom, walked}

@@ -12,11 +12,11 @@ use lib.ListN.{length}
 use Rattle.model.specs.declared.Connection.{Connection}
 use Rattle.model.specs.Node.{Node}
 use Rattle.model.specs.Forest.{cur, nxt, below, parentOf}
-use Rattle.forest.specs.Hangs.{nextOf, depth, Accepted}
-use Rattle.forest.proofs.Accept.{accepted-forest}
-use Rattle.forest.proofs.Bound.{depth-le}
-use Rattle.forest.proofs.Places.{high, low, place, next-below}
-use Rattle.forest.proofs.Ways.{climbBy, depth-climb, next-high}
+use Rattle.paths.specs.Hangs.{nextOf, depth, Accepted}
+use Rattle.paths.proofs.Accept.{accepted-forest}
+use Rattle.paths.proofs.Bound.{depth-le}
+use Rattle.paths.proofs.Places.{high, low, place, next-below}
+use Rattle.paths.proofs.Ways.{climbBy, depth-climb, next-high}
 use Rattle.rust.specs.Explain.{Explain}
 use Rattle.rust.specs.Distances.{Climbed, Found, connectionDistance, setClimbed, past}
 use Rattle.rust.proofs.Vectors.{on}

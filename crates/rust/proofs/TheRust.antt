@@ -13,9 +13,9 @@ use Rattle.model.specs.Node.{Node}
 use Rattle.model.specs.Forest.{root, joined, path, dist}
 use Rattle.model.specs.Flat.{flatProof}
 use Rattle.model.specs.Query.{Tables}
-use Rattle.model.specs.Tables.{onlyIf, tables}
-use Rattle.forest.proofs.Joined.{joined-root, apart-root}
-use Rattle.writer.proofs.Tables.{tables-accepted}
+use Rattle.model.specs.Tables.{onlyIf, judgeTables}
+use Rattle.paths.proofs.Joined.{joined-root, apart-root}
+use Rattle.flat.proofs.Tables.{tables-accepted}
 use Rattle.rust.specs.Panics.{_>>=_}
 use Rattle.rust.specs.Explain.{Connection, explainOf}
 use Rattle.rust.specs.Paths.{walked}
@@ -44,7 +44,7 @@ by-joined {o = o} t l r a yes-some no-none = go (joined (t .conns) l r) refl
     go true p = yes-some (joined-root (t .conns) l r p)
     go false p = no-none (apart-root (t .conns) l r p)
 
-module _ (nws rws cws : List ℕ) (t : Tables) (accepted : tables nws rws cws ≡ good t) (nesting rounds : ℕ) (enough : Enough t nesting rounds)
+module _ (nws rws cws : List ℕ) (t : Tables) (accepted : judgeTables nws rws cws ≡ good t) (nesting rounds : ℕ) (enough : Enough t nesting rounds)
     (l r : ℕ) (l-in : l < length (t .nodes)) (r-in : r < length (t .nodes)) where
   abbrev ns : List Node
   ns = t .nodes

@@ -7,9 +7,9 @@ use native.Mathlib.Omega.{arith}
 use native.Mathlib.Decide.{ℕ-discrete, decLe}
 use borrow.Author.Tests.{eq-eqb, ne-eqb}
 use Rattle.model.specs.declared.Connection.{Connection}
-use Rattle.forest.specs.Hangs.{nextOf, depth, Forest}
-use Rattle.forest.proofs.Places.{high, low, place}
-use Rattle.forest.proofs.Ways.{climbBy, next-high, Lowest}
+use Rattle.paths.specs.Hangs.{nextOf, depth, Forest}
+use Rattle.paths.proofs.Places.{high, low, place}
+use Rattle.paths.proofs.Ways.{climbBy, next-high, Lowest}
 use Rattle.rust.specs.Paths.{contains}
 
 -- the nodes of a climb before its k-th step, the last first

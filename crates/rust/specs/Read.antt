@@ -5,7 +5,8 @@ use mathlib.Core.List.{List, []}
 use mathlib.Core.Option.{Option, none, some}
 use lib.ListN.{length}
 use Rattle.model.specs.declared.Connection.{Connection as TableConnection}
-use Rattle.model.specs.Term.{Mark, unmarked, forward, backward, Terms, noTerms, tree}
+use Rattle.model.specs.declared.Direction.the-variants.{Forward, Backward}
+use Rattle.model.specs.Term.{Mark, unmarked, marked, Terms, noTerms, tree}
 use Rattle.model.specs.Node.{Node}
 use Rattle.model.specs.Forest.{Hop}
 use Rattle.rust.specs.Panics.{_>>=_}
@@ -33,8 +34,8 @@ asWalked h = asWalkedBy (h .conn) (h .up)
 -- a flat term's backward_rule and forward_rule as a mark: a term with both has none
 abbrev pub markOf : Option ℕ → Option ℕ → Option Mark
 markOf none none = some unmarked
-markOf none (some n) = some (forward n)
-markOf (some n) none = some (backward n)
+markOf none (some n) = some (marked Forward n)
+markOf (some n) none = some (marked Backward n)
 markOf (some m) (some n) = none
 
 unfoldable pub termsOf : Flats → Option Terms

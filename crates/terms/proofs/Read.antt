@@ -9,7 +9,9 @@ use native.Mathlib.Omega.{arith}
 use borrow.Author.Tests.{le-leb, leb-true}
 use lib.Dec.{leb}
 use Rattle.model.specs.Limits.{childLimit}
-use Rattle.model.specs.Term.{Mark, unmarked, forward, backward, Terms, noTerms, tree, count, join, Narrow, markWord, ruleWord, words, Reads, markOf, Cut, cut, longer, adopt, adoptIf, over, read}
+use Rattle.model.specs.declared.Direction.the-variants.{Forward, Backward}
+use Rattle.model.specs.declared.Direction.{Direction}
+use Rattle.model.specs.Term.{Mark, unmarked, marked, Terms, noTerms, tree, count, join, Narrow, directionWord, markWord, ruleWord, words, Reads, markOf, Cut, cut, longer, adopt, adoptIf, over, read}
 use Rattle.terms.proofs.Rows.{words-join, narrow-parts, join-none}
 
 -- a row in front of what was read
@@ -25,8 +27,13 @@ cut-join (tree o m k s) g = rw (cut-join s g)
 
 pub mark-words : (m : Mark) → markOf (markWord m) (ruleWord m) ≡ some m
 mark-words unmarked = refl
-mark-words (forward r) = refl
-mark-words (backward r) = refl
+mark-words (marked Forward r) = refl
+mark-words (marked Backward r) = refl
+
+-- a marked node's word is not 0
+pub direction-some : (d : Direction) → directionWord d ≡ 0 → ⊥
+direction-some Forward e = omega arith
+direction-some Backward e = omega arith
 
 over-joined : (o : ℕ) (m : Mark) (k s : Terms) → count k ≤ childLimit → (r : Option Terms)
     → over o (count k) (some m) (joinTo k (joinTo s r)) ≡ joinTo (tree o m k s) r
@@ -86,8 +93,8 @@ has-cut (suc c) (tree o m k s) l =
 pub mark-of : (m r : ℕ) (k : Mark) → markOf m r ≡ some k → (markWord k ≡ m) × (ruleWord k ≡ r)
 mark-of zero zero k e = let p : unmarked ≡ k = cc in rw (← p) (refl, refl)
 mark-of zero (suc r) k e = absurd (Option·none-ne-some _ e)
-mark-of (suc zero) r k e = let p : forward r ≡ k = cc in rw (← p) (refl, refl)
-mark-of (suc (suc zero)) r k e = let p : backward r ≡ k = cc in rw (← p) (refl, refl)
+mark-of (suc zero) r k e = let p : marked Forward r ≡ k = cc in rw (← p) (refl, refl)
+mark-of (suc (suc zero)) r k e = let p : marked Backward r ≡ k = cc in rw (← p) (refl, refl)
 mark-of (suc (suc (suc m))) r k e = absurd (Option·none-ne-some _ e)
 
 -- what a node that was read with its children says: the row read behind it, cut

@@ -4,23 +4,31 @@ use mathlib.Core.Bool.{true, _&&_, false≢true, and-eq-true-iff}
 use mathlib.Core.Path.{_≡_, refl, ap}
 use mathlib.Core.Logic.{_↔_}
 use borrow.Author.Tests.{eq-eqb, eqb-true}
-use Rattle.model.specs.Term.{Mark, unmarked, forward, backward, Terms, noTerms, tree, sameOp, sameMark, same}
+use lib.Dec.{eqb}
+use Rattle.model.specs.declared.Direction.{Direction}
+use Rattle.model.specs.declared.Direction.the-variants.{Forward, Backward}
+use Rattle.model.specs.Term.{Mark, unmarked, marked, Terms, noTerms, tree, sameOp, sameDirection, sameMark, same}
+
+same-direction : (d e : Direction) → sameDirection d e ≡ true → d ≡ e
+same-direction Forward Forward h = refl
+same-direction Forward Backward h = absurd (false≢true h)
+same-direction Backward Forward h = absurd (false≢true h)
+same-direction Backward Backward h = refl
+
+direction-same : (d : Direction) → sameDirection d d ≡ true
+direction-same Forward = refl
+direction-same Backward = refl
 
 same-mark : (m n : Mark) → sameMark m n ≡ true → m ≡ n
 same-mark unmarked unmarked e = refl
-same-mark unmarked (forward r) e = absurd (false≢true e)
-same-mark unmarked (backward r) e = absurd (false≢true e)
-same-mark (forward r) unmarked e = absurd (false≢true e)
-same-mark (forward r) (forward n) e = ap forward (eqb-true r n e)
-same-mark (forward r) (backward n) e = absurd (false≢true e)
-same-mark (backward r) unmarked e = absurd (false≢true e)
-same-mark (backward r) (forward n) e = absurd (false≢true e)
-same-mark (backward r) (backward n) e = ap backward (eqb-true r n e)
+same-mark unmarked (marked d r) e = absurd (false≢true e)
+same-mark (marked d r) unmarked e = absurd (false≢true e)
+same-mark (marked d r) (marked c n) e =
+    let p = and-eq-true-iff (sameDirection d c) (eqb r n) .0 e in rw (same-direction d c (p .0), eqb-true r n (p .1))
 
 mark-same : (m : Mark) → sameMark m m ≡ true
 mark-same unmarked = refl
-mark-same (forward r) = eq-eqb r r refl
-mark-same (backward r) = eq-eqb r r refl
+mark-same (marked d r) = rw (direction-same d, eq-eqb r r refl)
 
 same-is : (f g : Terms) → same f g ≡ true → f ≡ g
 unfolding same

@@ -3,10 +3,12 @@
 use model::CHILD_LIMIT;
 use model::OpNo;
 use model::RuleNo;
+use model::same_op;
+use model::wide;
 ghost use mathlib.Core.Path.{_≡_};
 ghost use Prim.Native.Nat.{_+_, _≤_};
 ghost use lib.ListN.{length};
-ghost use Rattle.model.specs.Term.{sameOp, read};
+ghost use Rattle.model.specs.Term.{read};
 ghost use Rattle.terms.specs.Place.{nodeOf, okNode, sameHead, Well, EndIs, EndsAt, SameIs};
 ghost use Rattle.terms.specs.Whole.{wholeOf};
 
@@ -28,13 +30,6 @@ pub enum End {
 pub enum Whole {
     Count(usize),
     Broken,
-}
-
-// A word as a count or a place.
-pub fn wide(x: u16) -> usize
-    ensures { λ r. ⌜ r ≡ x ⌝ }
-{
-    x as usize
 }
 
 // The one place where a node's words are read.
@@ -63,13 +58,6 @@ pub fn node_ok(n: Node) -> bool
         1 | 2 => true,
         _ => false,
     }
-}
-
-// What makes two nodes the same operator.
-pub fn same_op(a: OpNo, b: OpNo) -> bool
-    ensures { λ r. ⌜ r ≡ sameOp (a .0) (b .0) ⌝ }
-{
-    a.0 == b.0
 }
 
 // Whether a node has this operator and this count.

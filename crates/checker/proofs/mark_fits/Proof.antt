@@ -4,13 +4,14 @@ use borrow.Author.Needs.{needs}
 use Prim.Native.Nat.{ℕ}
 use mathlib.Core.List.{List}
 use mathlib.Core.Path.{_≡_, sym, ap, _∙_}
+use Rattle.model.specs.declared.Direction.the-variants.{Forward, Backward}
 use Rattle.model.specs.Term.{Term, one, markWord, ruleWord}
 use Rattle.model.specs.Rule.{listed}
 use Rattle.model.specs.Step.{fitsRule}
 use Rattle.terms.specs.declared.Node.{Node}
 use Rattle.terms.specs.Place.{nodeOf, TermAt}
 use Rattle.terms.proofs.Place.{well-room}
-use Rattle.checker.proofs.Allow.{term-tree, allowed-forward, allowed-backward, allowed-none}
+use Rattle.checker.proofs.Allow.{term-tree, allowed-marked, allowed-none}
 use Rattle.checker.proofs.mark_fits.Statement.{statement}
 use Rattle.checker.proofs.mark_fits.Tie as tie
 
@@ -35,14 +36,14 @@ returns c = λ rs are e e′ t u ht hu.
     let n = c .before .before .node-at in
     c .rule-at .ensures rs are e e′ t u ht hu
     ∙ (ap (λ (x : ℕ). fitsRule (listed rs x) (one t) (one u)) (rule (n .result) _ _ e′ u (n .ensures) hu)
-    ∙ sym (allowed-forward rs (one t) (one u) (u .mark) (sym (mark (n .result) _ _ e′ u (n .ensures) hu) ∙ c .before .match .keys1)))
+    ∙ sym (allowed-marked rs (one t) (one u) Forward (u .mark) (sym (mark (n .result) _ _ e′ u (n .ensures) hu) ∙ c .before .match .keys1)))
 
 returns-2 : tie.Need-returns-2
 returns-2 c = λ rs are e e′ t u ht hu.
     let n = c .before .before .node-at in
     c .rule-at2 .ensures rs are e′ e u t hu ht
     ∙ (ap (λ (x : ℕ). fitsRule (listed rs x) (one u) (one t)) (rule (n .result) _ _ e′ u (n .ensures) hu)
-    ∙ sym (allowed-backward rs (one t) (one u) (u .mark) (sym (mark (n .result) _ _ e′ u (n .ensures) hu) ∙ c .before .match .keys2)))
+    ∙ sym (allowed-marked rs (one t) (one u) Backward (u .mark) (sym (mark (n .result) _ _ e′ u (n .ensures) hu) ∙ c .before .match .keys2)))
 
 returns-3 : tie.Need-returns-3
 returns-3 c = λ rs are e e′ t u ht hu.

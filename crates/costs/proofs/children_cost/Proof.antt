@@ -5,7 +5,8 @@ use Prim.Native.Nat.{ℕ, _+_, _*_, _-_}
 use mathlib.Core.Path.{_≡_, sym, ap, ap₂, _∙_}
 use Rattle.model.specs.Forest.{root, sumPairs}
 use Rattle.model.specs.Tables.{wordsFrom}
-use Rattle.forest.specs.Tables.{oldest, countIn, childrenIn}
+use Rattle.entries.specs.Connections.{oldest}
+use Rattle.entries.specs.Nodes.{countIn, childrenIn}
 use Rattle.costs.specs.Costs.{held, weigh}
 use Rattle.costs.proofs.Weighed.{Sums, sums-none, sums-next, sums-done}
 use Rattle.costs.proofs.children_cost.Statement.{statement}

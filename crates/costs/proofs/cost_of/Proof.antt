@@ -6,8 +6,9 @@ use mathlib.Core.Path.{sym, ap, _∙_, subst}
 use lib.ListN.{length}
 use Rattle.model.specs.declared.Connection.{Connection}
 use Rattle.model.specs.Forest.{cur, nxt, sumPairs}
-use Rattle.forest.specs.Tables.{oldest, childrenIn, Twins}
-use Rattle.forest.proofs.Support.{twins, current-here, next-here}
+use Rattle.entries.specs.Connections.{oldest, Twins}
+use Rattle.entries.specs.Nodes.{childrenIn}
+use Rattle.entries.proofs.Support.{twins, current-here, next-here}
 use Rattle.costs.specs.Costs.{held, weigh}
 use Rattle.costs.proofs.Weighed.{filled-priced, cost-rule, cost-cong}
 use Rattle.costs.proofs.cost_of.Statement.{statement}

@@ -5,7 +5,7 @@ use Prim.Native.Nat.{ℕ}
 use mathlib.Core.Path.{sym, ap, _∙_, subst}
 use mathlib.Core.List.{List}
 use lib.ListN.{length}
-use Rattle.forest.specs.Tables.{oldest}
+use Rattle.entries.specs.Connections.{oldest}
 use Rattle.costs.specs.Costs.{held, weigh, filled, Filled, nodesOf}
 use Rattle.costs.proofs.Weighed.{length-filled, filled-each, filled-priced, weigh-dist}
 use Rattle.costs.proofs.distance.Statement.{statement}

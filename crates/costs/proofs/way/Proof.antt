@@ -5,7 +5,7 @@ use native.Mathlib.Omega.{arith}
 use Prim.Native.Nat.{ℕ, _+_, _-_}
 use mathlib.Core.Path.{_≡_, sym, ap, _∙_}
 use lib.ListN.{getD}
-use Rattle.forest.specs.Tables.{oldest}
+use Rattle.entries.specs.Connections.{oldest}
 use Rattle.costs.specs.Costs.{held, weigh}
 use Rattle.forest.proofs.Older.{Onward}
 use Rattle.costs.proofs.Climbing.{Way, way-right-onward, way-left-onward, way-right, way-left, weigh-self}

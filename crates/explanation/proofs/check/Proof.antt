@@ -4,8 +4,8 @@ use borrow.Author.Needs.{needs}
 use mathlib.Core.Path.{refl, sym, ap, _∙_}
 use Rattle.model.specs.Judged.{Judged}
 use Rattle.model.specs.Query.{Tables}
-use Rattle.model.specs.Tables.{tables, verdictBy}
-use Rattle.forest.proofs.Entries.{Good, taken-good}
+use Rattle.model.specs.Tables.{judgeTables, verdictBy}
+use Rattle.laws.proofs.Judging.{Good, taken-good}
 use Rattle.explanation.proofs.Whole.{whole, refused}
 use Rattle.explanation.proofs.check.Statement.{statement}
 use Rattle.explanation.proofs.check.Tie as tie
@@ -24,14 +24,14 @@ returns c =
     let d = c .before in
     let j = d .before .before .before in
     let a = j .before .before .before .before .before .before .args in
-    refused (tables (a .nodes .now) (a .rules .now) (a .connections .now)) (a .words .now) _ (sym (d .judged .given .1) ∙ j .judge-tables .ensures .0)
+    refused (judgeTables (a .nodes .now) (a .rules .now) (a .connections .now)) (a .words .now) _ (sym (d .judged .given .1) ∙ j .judge-tables .ensures .0)
 
 enum-told : tie.Need-enum-told
 enum-told c = search needs
 
 -- the tables are accepted
 accepted : (c : tie.After-enum-told) → let a = c .before .before .before .before .before .before .before .before .before .args in
-    Good (tables (a .nodes .now) (a .rules .now) (a .connections .now))
+    Good (judgeTables (a .nodes .now) (a .rules .now) (a .connections .now))
 accepted c = taken-good _ (sym (c .enum-told .given .1) ∙ c .before .before .before .judge-tables .ensures .0)
 
 check-requires : tie.Need-check-requires

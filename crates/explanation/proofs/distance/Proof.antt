@@ -4,9 +4,8 @@ use borrow.Author.Needs.{needs}
 use mathlib.Core.Path.{refl, sym, ap, _∙_}
 use Rattle.model.specs.Judged.{Judged}
 use Rattle.model.specs.Query.{Tables}
-use Rattle.model.specs.Tables.{tables}
-use Rattle.forest.proofs.Entries.{Good, taken-good}
-use Rattle.explanation.specs.Measure.{measureBy}
+use Rattle.model.specs.Tables.{judgeTables, measureBy}
+use Rattle.laws.proofs.Judging.{Good, taken-good}
 use Rattle.explanation.proofs.Whole.{whole, unmeasured}
 use Rattle.explanation.proofs.distance.Statement.{statement}
 use Rattle.explanation.proofs.distance.Tie as tie
@@ -25,7 +24,7 @@ returns c =
     let d = c .before in
     let j = d .before .before .before in
     let a = j .before .before .before .before .before .args in
-    unmeasured (tables (a .nodes .now) (a .rules .now) (a .connections .now)) (a .left .0) (a .right .0) _ (sym (d .judged .given .1) ∙ j .judge-tables .ensures .0)
+    unmeasured (judgeTables (a .nodes .now) (a .rules .now) (a .connections .now)) (a .left .0) (a .right .0) _ (sym (d .judged .given .1) ∙ j .judge-tables .ensures .0)
 
 enum-told : tie.Need-enum-told
 enum-told c = search needs
@@ -35,7 +34,7 @@ slice-aggregate-measure c = search needs
 
 -- the tables are accepted
 accepted : (c : tie.After-enum-told) → let a = c .before .before .before .before .before .before .before .before .args in
-    Good (tables (a .nodes .now) (a .rules .now) (a .connections .now))
+    Good (judgeTables (a .nodes .now) (a .rules .now) (a .connections .now))
 accepted c = taken-good _ (sym (c .enum-told .given .1) ∙ c .before .before .before .judge-tables .ensures .0)
 
 measure-requires : tie.Need-measure-requires

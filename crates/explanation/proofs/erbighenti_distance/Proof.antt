@@ -2,8 +2,8 @@
 -- Assumes nothing.
 use borrow.Author.Needs.{needs}
 use mathlib.Core.Path.{sym, ap, _∙_}
-use Rattle.explanation.specs.declared.Measured.{Measured}
-use Rattle.explanation.specs.Measure.{measureReport}
+use Rattle.model.specs.declared.Measured.{Measured}
+use Rattle.model.specs.Query.{measureReport}
 use Rattle.explanation.proofs.erbighenti_distance.Statement.{statement}
 use Rattle.explanation.proofs.erbighenti_distance.Tie as tie
 

@@ -5,8 +5,8 @@ use Prim.Native.Nat.{ℕ}
 use mathlib.Core.Path.{sym, ap, _∙_}
 use lib.ListN.{length, length-replicate}
 use Rattle.model.specs.Judged.{judgementOf}
-use Rattle.forest.specs.Whole.{NodesWhole}
-use Rattle.forest.proofs.Whole.{nodes-whole}
+use Rattle.entries.specs.Nodes.{NodesWhole}
+use Rattle.entries.proofs.Nodes.{nodes-whole}
 use Rattle.explanation.specs.Measure.{parentsBy}
 use Rattle.explanation.proofs.Whole.{bad-nodes, bad-rules, connections-decide}
 use Rattle.explanation.proofs.judge_tables.Statement.{statement}

@@ -8,11 +8,12 @@ use mathlib.Core.Bool.{true}
 use mathlib.Core.List.{List}
 use mathlib.Core.Path.{_≡_, sym, ap, subst, _∙_}
 use lib.ListN.{length}
+use Rattle.model.specs.declared.Measured.the-variants.{Distance}
 use Rattle.model.specs.Forest.{root, joined, dist}
 use Rattle.model.specs.Query.{Tables}
-use Rattle.forest.specs.Tables.{firstNodes, oldest}
-use Rattle.forest.proofs.Tables.{length-nodes}
-use Rattle.explanation.specs.declared.Measured.the-variants.{Distance}
+use Rattle.entries.specs.Nodes.{firstNodes}
+use Rattle.entries.specs.Connections.{oldest}
+use Rattle.entries.proofs.Nodes.{length-nodes}
 use Rattle.explanation.proofs.Measures.{no-left, no-right, apart, long, near}
 use Rattle.explanation.proofs.measure.Statement.{statement}
 use Rattle.explanation.proofs.measure.Tie as tie

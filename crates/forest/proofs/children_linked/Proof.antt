@@ -7,8 +7,9 @@ use borrow.Author.Tests.{not-true, not-false}
 use Rattle.model.specs.Forest.{joined}
 use Rattle.model.specs.Connect.{pairsJoined}
 use Rattle.model.specs.Tables.{wordsFrom}
-use Rattle.forest.specs.Tables.{oldest, countIn, childIn, childrenIn}
-use Rattle.forest.proofs.Children.{Pairs, pairs-all, pairs-next, pairs-off, pairs-done}
+use Rattle.entries.specs.Connections.{oldest}
+use Rattle.entries.specs.Nodes.{countIn, childIn, childrenIn}
+use Rattle.entries.proofs.Children.{Pairs, pairs-all, pairs-next, pairs-off, pairs-done}
 use Rattle.forest.proofs.children_linked.Statement.{statement}
 use Rattle.forest.proofs.children_linked.Tie as tie
 

@@ -4,9 +4,9 @@ use native.Mathlib.Omega.{arith}
 use Prim.Native.Nat.{ℕ, _+_, _<_, suc}
 use mathlib.Core.Path.{_≡_, sym, ap, _∙_}
 use Rattle.model.specs.Limits.{nodeLimit}
-use Rattle.forest.specs.Hangs.{depth}
-use Rattle.forest.specs.Tables.{oldest}
-use Rattle.forest.proofs.Climbs.{none-depth, some-depth, depth-small}
+use Rattle.paths.specs.Hangs.{depth}
+use Rattle.entries.specs.Connections.{oldest}
+use Rattle.forest.proofs.Ages.{none-depth, some-depth, depth-small}
 use Rattle.forest.proofs.depth_of.Statement.{statement}
 use Rattle.forest.proofs.depth_of.Tie as tie
 

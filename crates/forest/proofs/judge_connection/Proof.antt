@@ -7,9 +7,11 @@ use lib.ListN.{length}
 use mathlib.Core.Bool.{true, false}
 use Rattle.model.specs.Limits.{nodeLimit}
 use Rattle.model.specs.Forest.{cur, nxt}
-use Rattle.forest.specs.Tables.{oldest, firstNodes}
-use Rattle.forest.proofs.Tables.{length-nodes, known}
-use Rattle.forest.proofs.Judging.{out-current, out-next, has-parent, already, Placed, by-rule, by-support, supported-in, age-some, age-none}
+use Rattle.entries.specs.Connections.{oldest}
+use Rattle.entries.specs.Nodes.{firstNodes}
+use Rattle.entries.proofs.Nodes.{length-nodes, known}
+use Rattle.entries.proofs.Judging.{out-current, out-next, has-parent, already, Placed, by-rule, by-support, supported-in}
+use Rattle.forest.proofs.Judging.{age-some, age-none}
 use Rattle.forest.proofs.judge_connection.Statement.{statement}
 use Rattle.forest.proofs.judge_connection.Tie as tie
 

@@ -9,8 +9,9 @@ use Rattle.model.specs.declared.Connection.{Connection}
 use Rattle.model.specs.Limits.{nodeLimit}
 use Rattle.model.specs.Judged.{judgementOf}
 use Rattle.model.specs.Forest.{cur}
-use Rattle.forest.specs.Tables.{firstNodes, parentWords, Stands}
-use Rattle.forest.proofs.Tables.{length-nodes}
+use Rattle.entries.specs.Nodes.{firstNodes}
+use Rattle.forest.specs.Parents.{parentWords, Stands}
+use Rattle.entries.proofs.Nodes.{length-nodes}
 use Rattle.forest.proofs.Built.{Building, building-none, building-stands, building-bad, building-more, building-done, Onward, onward}
 use Rattle.forest.proofs.judge_connections.Statement.{statement}
 use Rattle.forest.proofs.judge_connections.Tie as tie

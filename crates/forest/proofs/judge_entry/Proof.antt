@@ -5,9 +5,10 @@ use mathlib.Core.Option.{some}
 use borrow.Author.Tests.{not-true, not-false}
 use Rattle.model.specs.Judged.{judgementOf}
 use Rattle.model.specs.Connect.{addConnection}
-use Rattle.forest.specs.Tables.{oldest, firstNodes}
-use Rattle.forest.proofs.Tables.{entry-there}
-use Rattle.forest.proofs.Judging.{absent}
+use Rattle.entries.specs.Connections.{oldest}
+use Rattle.entries.specs.Nodes.{firstNodes}
+use Rattle.entries.proofs.Connections.{entry-there}
+use Rattle.entries.proofs.Judging.{absent}
 use Rattle.forest.proofs.judge_entry.Statement.{statement}
 use Rattle.forest.proofs.judge_entry.Tie as tie
 

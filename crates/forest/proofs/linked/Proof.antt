@@ -1,8 +1,8 @@
 -- `forest::linked` meets its contract: two nodes are joined where their climbs meet.
 use borrow.Author.Needs.{needs}
 use mathlib.Core.Path.{sym, ap, _∙_}
-use Rattle.forest.specs.Meet.{found}
-use Rattle.forest.proofs.Climbs.{meet-joined}
+use Rattle.paths.specs.Meet.{found}
+use Rattle.paths.proofs.Meets.{meet-joined}
 use Rattle.forest.proofs.linked.Statement.{statement}
 use Rattle.forest.proofs.linked.Tie as tie
 

@@ -4,9 +4,9 @@ use borrow.Author.Needs.{needs}
 use native.Mathlib.Omega.{arith}
 use Prim.Native.Nat.{_+_}
 use mathlib.Core.Path.{refl, sym, ap, _∙_}
-use Rattle.forest.specs.Tables.{oldest}
-use Rattle.forest.specs.Meet.{meetOf}
-use Rattle.forest.proofs.Climbs.{Climb, meet-done, meet-nowhere, right-up, left-up}
+use Rattle.entries.specs.Connections.{oldest}
+use Rattle.paths.specs.Meet.{meetOf}
+use Rattle.paths.proofs.Meets.{Climb, meet-done, meet-nowhere, right-up, left-up}
 use Rattle.forest.proofs.meet.Statement.{statement}
 use Rattle.forest.proofs.meet.Tie as tie
 

@@ -4,7 +4,7 @@ use native.Mathlib.Omega.{arith}
 use Prim.Native.Nat.{ℕ, _+_, _*_, _-_, _<_}
 use mathlib.Core.Path.{_≡_, sym, ap, _∙_}
 use lib.ListN.{getD}
-use Rattle.forest.proofs.Climbs.{none-next, some-less, some-next, some-small}
+use Rattle.forest.proofs.Ages.{none-next, some-less, some-next, some-small}
 use Rattle.forest.proofs.next_of.Statement.{statement}
 use Rattle.forest.proofs.next_of.Tie as tie
 

@@ -7,8 +7,9 @@ use mathlib.Core.Bool.{true, false, and-false}
 use borrow.Author.Tests.{not-true, not-false}
 use Rattle.model.specs.Term.{sameOp}
 use Rattle.model.specs.Forest.{joined}
-use Rattle.forest.specs.Tables.{oldest, countIn}
-use Rattle.forest.proofs.Children.{pairs-uneven}
+use Rattle.entries.specs.Connections.{oldest}
+use Rattle.entries.specs.Nodes.{countIn}
+use Rattle.entries.proofs.Children.{pairs-uneven}
 use Rattle.forest.proofs.supports.Statement.{statement}
 use Rattle.forest.proofs.supports.Tie as tie
 

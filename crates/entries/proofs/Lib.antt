@@ -1,0 +1,6 @@
+pub mod Children
+pub mod Nodes
+pub mod Connections
+pub mod Judging
+pub mod Support
+pub mod Kept

@@ -1,0 +1,59 @@
+-- What demand 3 and a query's refusals speak of: the conditions in the words of document 01, and what is granted.
+-- Assumes nothing.
+use Prim.Native.Nat.{ℕ, suc, _-_, _≤_, _<_}
+use mathlib.Core.Bool.{false}
+use mathlib.Core.List.{_++_}
+use mathlib.Core.Logic.{_⊎_}
+use mathlib.Core.Path.{_≡_}
+use lib.ListN.{length, replicate}
+use Rattle.model.specs.declared.Answer.the-variants.{Written}
+use Rattle.model.specs.declared.Verdict.the-variants.{Accepted}
+use Rattle.model.specs.Limits.{distanceLimit, wordLimit}
+use Rattle.model.specs.Judged.{Judged}
+use Rattle.model.specs.Term.{one, count, strip}
+use Rattle.model.specs.Step.{someMark, isMark}
+use Rattle.model.specs.Node.{termOf}
+use Rattle.model.specs.Forest.{Linked}
+use Rattle.model.specs.Flat.{later}
+use Rattle.model.specs.Premise.{Premise}
+use Rattle.model.specs.Query.{Tables, distanceOf, proofOf, proofWords}
+use Rattle.model.specs.Tables.{answerBy, areaOf, verdictBy}
+use Rattle.flat.specs.Ends.{first, last}
+use Rattle.flat.specs.Marks.{OneMarkEach}
+
+-- "query number not in the node table"
+abbrev pub Missing : Tables → ℕ → ℕ → Type 0
+Missing t l r = (length (t .nodes) ≤ l) ⊎ (length (t .nodes) ≤ r)
+
+pub record Known (t : Tables) (l r : ℕ) : Type 0 where
+  pub left : l < length (t .nodes)
+  pub right : r < length (t .nodes)
+
+-- "no chain of connections joins the pair"
+abbrev pub Unlinked : Tables → ℕ → ℕ → Type 0
+Unlinked t l r = Linked (t .conns) l r → ⊥
+
+-- "needed words exceed the area, or 1,048,576"
+abbrev pub Exceeds : Tables → ℕ → ℕ → ℕ → Type 0
+Exceeds t area l r = (area < length (proofWords t l r)) ⊎ (wordLimit < length (proofWords t l r))
+
+-- what a query needs to be answered: none of these holds
+pub record Asked (t : Tables) (area l r : ℕ) : Type 0 where
+  pub known : Known t l r
+  pub linked : Linked (t .conns) l r
+  pub near : distanceOf t l r ≤ distanceLimit
+  pub fits : length (proofWords t l r) ≤ area
+  pub few : length (proofWords t l r) ≤ wordLimit
+
+-- What is granted, over the judged tables j, which are t: the distance and the words are answered, and the area holds the words
+-- and zeros behind them; the proof has distance + 1 terms, from the left node's, unmarked, to the right node's, with one mark in
+-- each later term; and where each rule connection is an instance of its listed rule, the strict checker accepts the words.
+pub record Granted (j : Judged Tables) (t : Tables) (area l r : ℕ) : Type 0 where
+  pub answers : answerBy j area l r ≡ Written (distanceOf t l r) (length (proofWords t l r))
+  pub lent : areaOf j area l r ≡ proofWords t l r ++ replicate (area - length (proofWords t l r)) 0
+  pub terms : count (proofOf t l r) ≡ suc (distanceOf t l r)
+  pub starts : first (proofOf t l r) ≡ one (termOf (t .nodes) l)
+  pub plain : someMark isMark (first (proofOf t l r)) ≡ false
+  pub arrives : strip (last (proofOf t l r)) ≡ one (termOf (t .nodes) r)
+  pub marked : OneMarkEach (later (t .nodes) (t .conns) l r)
+  pub accepted : Premise (t .rules) (t .nodes) (t .conns) → verdictBy j (proofWords t l r) ≡ Accepted (suc (distanceOf t l r))

@@ -1,0 +1,11 @@
+pub mod Laws
+pub mod Bound
+pub mod Places
+pub mod Ways
+pub mod Related
+pub mod Joined
+pub mod Edge
+pub mod Accept
+pub mod Count
+pub mod Meets
+pub mod Climbed
