@@ -1,7 +1,7 @@
 -- The Rust's explanation of one connection (`explain_adjacent`), flattened behind the terms written so far, appends what document 01 says.
-use Prim.Native.Nat.{ℕ, zero, suc, _≤_, _<_}
+use Prim.Native.Nat.{ℕ, _≤_, _<_}
 use mathlib.Core.Path.{_≡_, refl, sym, ap, ap₂, _∙_}
-use mathlib.Core.Bool.{Bool, true, false, not, cond, _||_}
+use mathlib.Core.Bool.{Bool, true, false, not, _||_}
 use mathlib.Core.List.{List, [], _∷_}
 use mathlib.Core.Option.{Option, none, some}
 use native.Mathlib.Omega.{arith}
@@ -16,17 +16,17 @@ use Rattle.model.specs.Term.{Mark, unmarked, Terms, noTerms, tree, count, join,
 use Rattle.model.specs.Node.{Node, noNode, opOf, kidsOf, row, termOf}
 use Rattle.model.specs.Forest.{root}
 use Rattle.model.specs.Flat.{markFor, markedTerm, runs, appended as appends, later, flatProof}
-use Rattle.terms.proofs.Rows.{join-assoc, join-none}
+use Rattle.terms.proofs.Rows.{join-assoc}
 use Rattle.paths.specs.Hangs.{Accepted, Paired}
 use Rattle.paths.proofs.Accept.{paired-length}
 use Rattle.flat.specs.Ends.{lastOr, last}
 use Rattle.flat.specs.Nodes.{AcceptedNodes}
-use Rattle.flat.proofs.NodeTerms.{term-is, term-strip}
+use Rattle.flat.proofs.NodeTerms.{term-is}
 use Rattle.flat.proofs.Twins.{Twins}
 use Rattle.flat.proofs.Way.{way}
-use Rattle.rust.specs.Panics.{_>>=_}
 use Rattle.rust.specs.Explain.{rule, congruence, justified, isForward, goesForward}
-use Rattle.rust.specs.Flatten.{Trees, noTrees, treeTerm, Proofs, noProofs, proofOf, Flats, noFlats, flatTerm, firstOf, skipOne, extend, lastOf, dropLast, hasForward, hasBackward, combineRewrites, appended, flattenExplanation, flattenProof, flattenChildren}
+use Rattle.rust.specs.Flatten.{Trees, Proofs, noProofs, proofOf, Flats, noFlats, flatTerm, firstOf, skipOne}
+use Rattle.rust.specs.Flatten.{extend, lastOf, dropLast, hasForward, hasBackward, combineRewrites, appended, flattenProof, flattenChildren}
 use Rattle.rust.specs.Trees.{TreeTerm, before, nodeToExplanation, subproofs, marked, explainBy}
 use Rattle.rust.proofs.Vectors.{on, elem-default}
 use Rattle.rust.proofs.Inside.{Kids, kids-inside}
@@ -37,7 +37,8 @@ use Rattle.rust.proofs.NodeTrees.{Planted, planted, planted-flat}
 -- a round of flatten_proof, from what its tests say
 module _ (o : ℕ) (b f : Option ℕ) (k s e : Flats) {first : Flats} (starts : firstOf e ≡ some first) where
   merging : {last with-marks : Flats} → hasForward first ≡ false → hasBackward first ≡ false → lastOf (flatTerm o b f k s) ≡ some last →
-      combineRewrites first last ≡ some with-marks → appended (flatTerm o b f k s) e ≡ some (extend (dropLast (flatTerm o b f k s)) (extend with-marks (skipOne e)))
+      combineRewrites first last ≡ some with-marks →
+      appended (flatTerm o b f k s) e ≡ some (extend (dropLast (flatTerm o b f k s)) (extend with-marks (skipOne e)))
   unfolding appended
   merging p q u v = on _ starts ∙ rw (p, q) (on _ u ∙ on _ v)
 
@@ -95,7 +96,8 @@ module _ {ns : List Node} (nodes : AcceptedNodes ns) where
   pub record Adjoins (l : ℕ) (f : Terms) (o : Option TreeTerm) : Type 0 where
     pub tree : TreeTerm
     pub is : o ≡ some tree
-    pub folds : (sofar : Terms) → strip (last sofar) ≡ one (termOf ns l) → (rest : Trees) → flattenProof (before tree rest) (flats sofar) ≡ flattenProof rest (flats (join sofar f))
+    pub folds : (sofar : Terms) → strip (last sofar) ≡ one (termOf ns l) → (rest : Trees) →
+        flattenProof (before tree rest) (flats sofar) ≡ flattenProof rest (flats (join sofar f))
 
   -- a rule: the next node, marked
   module _ (enodes : ℕ → ℕ → Option Trees) (rounds : ℕ) (room : length ns ≤ rounds) (a b : ℕ) (b-in : b < length ns) where

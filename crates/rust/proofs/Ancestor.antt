@@ -1,13 +1,12 @@
 -- The Rust's common ancestor of two joined nodes is where the two climbs meet.
 use Prim.Native.Nat.{ℕ, zero, suc, _+_, _<_}
 use mathlib.Core.Path.{_≡_, refl, sym, ap, _∙_}
-use mathlib.Core.Bool.{Bool, true, false, not, cond, _||_}
+use mathlib.Core.Bool.{Bool, true, false, not, _||_}
 use mathlib.Core.List.{List, [], _∷_}
 use mathlib.Core.Option.{Option, none, some}
 use native.Mathlib.Omega.{arith}
 use native.Mathlib.Decide.{ℕ-discrete}
 use borrow.Author.Tests.{eq-eqb, ne-eqb}
-use lib.Dec.{eqb}
 use lib.ListN.{length}
 use Rattle.model.specs.declared.Connection.{Connection}
 use Rattle.model.specs.Node.{Node}
@@ -20,7 +19,7 @@ use Rattle.rust.specs.Panics.{_>>_, assert}
 use Rattle.rust.specs.Explain.{Explain}
 use Rattle.rust.specs.Paths.{contains, differ, commonAncestor}
 use Rattle.rust.proofs.Vectors.{on}
-use Rattle.rust.proofs.Built.{Holds, parentIn}
+use Rattle.rust.proofs.Built.{Holds}
 use Rattle.rust.proofs.Inside.{parent-is, parent-next, climb-inside}
 use Rattle.rust.proofs.Trails.{trail, Passed, passed, not-passed, climb-next, lowest-any}
 
@@ -135,7 +134,8 @@ module _
 
   from : (d k : ℕ) → Fresh k → i + j < k + d → Round d k
   from zero k w h = absurd (w i j (omega arith) (omega arith) meet)
-  from (suc d) k w h = go (contains (trail cs k r) (climbBy cs k l)) refl (contains (trail cs (suc k) l) (climbBy cs k r)) refl (λ x. from d (suc k) x (omega arith))
+  from (suc d) k w h =
+      go (contains (trail cs k r) (climbBy cs k l)) refl (contains (trail cs (suc k) l) (climbBy cs k r)) refl (λ x. from d (suc k) x (omega arith))
     where
       go : (b : Bool) → contains (trail cs k r) (climbBy cs k l) ≡ b → (c : Bool) → contains (trail cs (suc k) l) (climbBy cs k r) ≡ c →
           (Fresh (suc k) → Round d (suc k)) → Round (suc d) k
@@ -148,8 +148,8 @@ module _
   ancestor rounds h = from rounds 0 (λ a b p q e. omega arith) (omega arith)
 
 -- and of two nodes that are not joined it finds none: the Rust's assertion fails
-module _ {ns : List Node} {cs : List Connection} {ex : Explain} (acc : Accepted ns cs) (held : Holds ns cs ex) (l r : ℕ) (l-in : l < length ns) (r-in : r < length ns)
-    (apart : root cs l ≡ root cs r → ⊥) where
+module _ {ns : List Node} {cs : List Connection} {ex : Explain} (acc : Accepted ns cs) (held : Holds ns cs ex) (l r : ℕ)
+    (l-in : l < length ns) (r-in : r < length ns) (apart : root cs l ≡ root cs r → ⊥) where
   never : (a b : ℕ) → climbBy cs a l ≡ climbBy cs b r → ⊥
   never a b e = let f = accepted-forest ns cs acc in apart (sym (root-climb a cs l f) ∙ ap (root cs) e ∙ root-climb b cs r f)
 

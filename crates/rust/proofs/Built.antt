@@ -3,20 +3,20 @@ use Prim.Native.Nat.{ℕ, zero, suc, _<_}
 use mathlib.Core.Path.{_≡_, refl, sym, ap, _∙_}
 use mathlib.Core.Bool.{cond}
 use mathlib.Core.List.{List, [], _∷_, _++_}
-use mathlib.Core.Option.{Option, none, some}
+use mathlib.Core.Option.{some}
 use native.Mathlib.Omega.{arith}
 use native.Mathlib.Decide.{ℕ-discrete}
 use borrow.Author.Tests.{eq-eqb, ne-eqb}
 use lib.Dec.{eqb}
-use lib.ListN.{length, set, getElem?, length-append, length-set}
+use lib.ListN.{length, set, getElem?, length-set}
 use Rattle.model.specs.declared.Connection.{Connection as TableConnection}
 use Rattle.model.specs.Node.{Node}
 use Rattle.model.specs.Forest.{cur, nxt, root, Parent, top, below, parentOf}
 use Rattle.paths.specs.Hangs.{Accepted, Sound}
 use Rattle.paths.proofs.Accept.{sound}
-use Rattle.paths.proofs.Laws.{parent-new, parent-old}
-use Rattle.rust.specs.Panics.{_>>=_, counted}
-use Rattle.rust.specs.Explain.{Connection, ExplainNode, Memoed, Explain, alone, makeLeader, pushNeighbor, setParent, remember, union, justified, goesForward, explainOf}
+use Rattle.rust.specs.Panics.{counted}
+use Rattle.rust.specs.Explain.{Connection, ExplainNode, Memoed, Explain, alone}
+use Rattle.rust.specs.Explain.{makeLeader, pushNeighbor, setParent, remember, union, justified, goesForward, explainOf}
 use Rattle.rust.specs.Read.{up, down}
 use Rattle.rust.proofs.Vectors.{on, set-same, set-other, counted-length, counted-at}
 
@@ -111,7 +111,10 @@ module _ (ns : List Node) (c : TableConnection) (cs : List TableConnection) (e :
   hung-at : (n : ℕ) → n < length ns → getElem? hung n ≡ some (nodeIn (c ∷ cs) n)
   hung-at n k =
       elim (ℕ-discrete n (cur c)) [
-        | yes q ↦ rw q (set-same both (cur c) done (omega (arith, s .current-in, h .size, length-set one (nxt c) other, length-set (e .explainfind) (cur c) begun)) ∙ at-current)
+        | yes q ↦
+            let u : cur c < length both =
+            omega (arith, s .current-in, h .size, length-set one (nxt c) other, length-set (e .explainfind) (cur c) begun) in
+            rw q (set-same both (cur c) done u ∙ at-current)
         | no q ↦ elim (ℕ-discrete n (nxt c)) [
           | yes r ↦ rw r (set-other both (cur c) (nxt c) done apart
               ∙ set-same one (nxt c) other (omega (arith, s .next-in, h .size, length-set (e .explainfind) (cur c) begun)) ∙ at-next)

@@ -2,17 +2,17 @@
 use Prim.Native.Nat.{ℕ, suc}
 use mathlib.Core.Path.{_≡_, refl, sym, ap, ap₂, _∙_}
 use mathlib.Core.List.{List, [], _∷_}
-use mathlib.Core.Option.{Option, none, some}
+use mathlib.Core.Option.{Option, some}
 use native.Mathlib.Omega.{arith}
-use Rattle.model.specs.Term.{Mark, unmarked, Terms, noTerms, tree, count, join, put, one, strip}
+use Rattle.model.specs.Term.{Mark, unmarked, Terms, noTerms, tree, count, join, put, one}
 use Rattle.model.specs.Node.{Node, row, termOf}
 use Rattle.model.specs.Flat.{within, runs}
 use Rattle.terms.proofs.Rows.{join-assoc, join-none, count-join}
 use Rattle.flat.specs.Ends.{lastOr, last, Leads}
 use Rattle.flat.proofs.NodeTerms.{term-strip}
 use Rattle.flat.proofs.Within.{last-join}
-use Rattle.rust.specs.Panics.{_>>=_}
-use Rattle.rust.specs.Flatten.{Flats, noFlats, flatTerm, firstOf, skipOne, lastOf, dropLast, extend, removeRewrites, setTerm, setChild, representatives, pushed, childLoop, setRules, flattenExplanation}
+use Rattle.rust.specs.Flatten.{Flats, flatTerm, lastOf, dropLast, extend, removeRewrites}
+use Rattle.rust.specs.Flatten.{setTerm, setChild, representatives, pushed, childLoop, flattenExplanation}
 use Rattle.rust.proofs.Vectors.{on}
 use Rattle.rust.proofs.Flats.{flats, extend-flats, remove-flats, front, front-last, drop-flats, last-flats, set-flats, pushed-flats}
 
@@ -126,7 +126,8 @@ module _ (ns : List Node) (later : ℕ → ℕ → Terms) where
   unfolding last lastOr
   next-reps x y before behind v =
       let t = termOf ns x in
-      ap (λ (z : Flats). setTerm (count before) z (flats (join before (put t behind)))) (remove-flats (last (put t (later x y))) ∙ ap flats (v ∙ term-strip ns y))
+      ap (λ (z : Flats). setTerm (count before) z (flats (join before (put t behind))))
+      (remove-flats (last (put t (later x y))) ∙ ap flats (v ∙ term-strip ns y))
       ∙ set-flats before (one (termOf ns y)) behind (t .op) (t .mark) (t .kids)
       ∙ ap (λ (z : Terms). some (flats z)) (sym (join-assoc before (one (termOf ns y)) behind))
 

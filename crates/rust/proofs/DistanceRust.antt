@@ -1,84 +1,39 @@
 -- The Rust's distance of two joined nodes is document 01's.
-use Prim.Native.Nat.{ℕ, zero, suc, _+_, _-_, _*_, _≤_, _<_}
-use mathlib.Core.Path.{_≡_, refl, sym, ap, ap₂, _∙_, subst}
-use mathlib.Core.Bool.{true, false, cond}
-use mathlib.Core.List.{List, [], _∷_}
+use Prim.Native.Nat.{ℕ, zero, suc, _+_, _*_, _≤_, _<_}
+use mathlib.Core.Path.{_≡_, refl, sym, ap, _∙_}
+use mathlib.Core.Bool.{true}
+use mathlib.Core.List.{List}
 use mathlib.Core.Option.{Option, none, some}
 use native.Mathlib.Omega.{arith}
 use native.Mathlib.Decide.{ℕ-discrete}
 use native.Mathlib.Nat.{add-assoc, zero-add, add-zero}
 use borrow.Author.Tests.{eq-eqb, ne-eqb, le-leb}
-use lib.ListN.{length, getElem?}
+use lib.ListN.{length}
 use Rattle.model.specs.declared.Connection.{Connection}
-use Rattle.model.specs.declared.Justification.{Justification}
-use Rattle.model.specs.declared.Justification.the-variants.{Rule as byRule, Congruence}
-use Rattle.model.specs.Node.{Node, noNode, kidsOf}
-use Rattle.model.specs.Forest.{cur, nxt, root, walk, dist, costBy, sumPairs, below, parentOf}
-use Rattle.paths.specs.Hangs.{nextOf, depth, Forest, Accepted, Paired}
+use Rattle.model.specs.Node.{Node}
+use Rattle.model.specs.Forest.{cur, nxt, root, dist, costBy, below, parentOf}
+use Rattle.paths.specs.Hangs.{depth, Forest, Accepted}
 use Rattle.paths.proofs.Joined.{dist-self}
 use Rattle.paths.proofs.Bound.{depth-le}
-use Rattle.paths.proofs.Accept.{accepted-forest, sound, kin}
-use Rattle.paths.proofs.Places.{high, low, place}
+use Rattle.paths.proofs.Accept.{accepted-forest}
+use Rattle.paths.proofs.Places.{high, low}
 use Rattle.paths.proofs.Ways.{climbBy, depth-climb, Lowest, hop-low, ups, Meets, meets}
 use Rattle.flat.specs.Nodes.{AcceptedNodes}
-use Rattle.rust.specs.Panics.{_>>=_}
-use Rattle.rust.specs.Explain.{Explain, justified}
-use Rattle.rust.specs.Distances.{Climbed, Found, unclimbed, treeDepth, childDistances, connectionDistance, calculateParentDistance, distanceBetween}
-use Rattle.rust.proofs.Vectors.{on, off, elem-default, counted-length, counted-at}
+use Rattle.rust.specs.Explain.{Explain}
+use Rattle.rust.specs.Distances.{Climbed, Found, Between, unclimbed, treeDepth, connectionDistance, calculateParentDistance, distanceBetween}
+use Rattle.rust.proofs.Vectors.{on, off, counted-length, counted-at}
 use Rattle.rust.specs.Read.{up}
 use Rattle.rust.proofs.Built.{Holds}
-use Rattle.rust.proofs.Behind.{Behind, all, older, behind-more, behind-length, accepted-behind, root-behind, walk-behind, forest-behind, parent-behind, climb-behind}
-use Rattle.rust.proofs.Inside.{Hung, hung-by, climb-inside, Kids, kids-inside}
+use Rattle.rust.proofs.Behind.{Behind, all, older, behind-more, behind-length, accepted-behind, root-behind, walk-behind}
+use Rattle.rust.proofs.Inside.{climb-inside}
 use Rattle.rust.proofs.Olders.{left-older}
 use Rattle.rust.proofs.Ancestor.{ancestor, no-ancestor}
-use Rattle.rust.proofs.Heights.{climb-add, priced, costUp, cost-add, cost-down, Memo, Full, adds-up}
+use Rattle.rust.proofs.Heights.{climb-add, priced, costUp, cost-add, cost-down, onto, Memo, Full, adds-up}
 use Rattle.rust.proofs.Climbing.{depth-is, Compressed, Reached, Pays, compressed}
 use Rattle.rust.proofs.Reaching.{measure-little, reached}
+use Rattle.rust.proofs.Paying.{costs, paid}
 
 module _ {ns : List Node} {cs : List Connection} {ex : Explain} (nodes : AcceptedNodes ns) (acc : Accepted ns cs) (held : Holds ns cs ex) where
-  -- one connection, if the distances of its children are known
-  module _ (between : List Climbed → ℕ → ℕ → Option Found) (o : List Connection)
-      (known : (l r : ℕ) → l < length ns → r < length ns → root o l ≡ root o r → (memo : List Climbed) (h : ℕ → ℕ) → Memo ns cs memo h →
-      Pays acc held h (dist ns o l r) (between memo l r)) where
-    children : (xs ys : List ℕ) → Paired o xs ys → Kids (length ns) xs → Kids (length ns) ys → (memo : List Climbed) (h : ℕ → ℕ) → Memo ns cs memo h → (cost : ℕ) →
-        Pays acc held h (cost + sumPairs (dist ns o) xs ys) (childDistances between memo xs ys cost)
-    unfolding childDistances sumPairs
-    children [] ys p u v memo h m cost =
-        record { memo = memo; heights = h; is = ap (λ (x : ℕ). some (record { memo = memo; cost = x })) (sym (add-zero cost)); holds = m; more = λ x. omega arith }
-    children (x ∷ xs) [] p u v memo h m cost = absurd p
-    children (x ∷ xs) (y ∷ ys) p u v memo h m cost =
-        let a = known x y (u .0) (v .0) (p .0) memo h m in
-        let b = children xs ys (p .1) (u .1) (v .1) (a .memo) (a .heights) (a .holds) (cost + dist ns o x y) in
-        record {
-          memo = b .memo;
-          heights = b .heights;
-          is = on _ (a .is) ∙ b .is ∙ ap (λ (z : ℕ). some (record { memo = b .memo; cost = z })) (omega arith);
-          holds = b .holds;
-          more = λ z. omega (arith, a .more z, b .more z);
-        }
-
-    paid : (c : Connection) → Accepted ns (c ∷ o) → (memo : List Climbed) (h : ℕ → ℕ) → Memo ns cs memo h →
-        Pays acc held h (costBy ns (dist ns o) (c .why) (cur c) (nxt c)) (connectionDistance between ns memo (justified (c .why)) (cur c) (nxt c))
-    unfolding costBy
-    paid c a memo h m = go (c .why) refl
-      where
-        go : (w : Justification) → c .why ≡ w →
-            Pays acc held h (costBy ns (dist ns o) (c .why) (cur c) (nxt c)) (connectionDistance between ns memo (justified (c .why)) (cur c) (nxt c))
-        go (byRule n d) q = rw q (record { memo = memo; heights = h; is = refl; holds = m; more = λ x. omega arith })
-        go Congruence q =
-            let s = sound (a .0) in
-            let x = cur c in
-            let y = nxt c in
-            let k = children (kidsOf ns x) (kidsOf ns y) (kin s q) (kids-inside ns nodes x (s .current-in)) (kids-inside ns nodes y (s .next-in)) memo h m 0 in
-            rw q (record {
-              memo = k .memo;
-              heights = k .heights;
-              is = on _ (elem-default ns x noNode (s .current-in)) ∙ on _ (elem-default ns y noNode (s .next-in)) ∙ k .is
-                  ∙ ap (λ (z : ℕ). some (record { memo = k .memo; cost = z })) (zero-add (sumPairs (dist ns o) (kidsOf ns x) (kidsOf ns y)));
-              holds = k .holds;
-              more = k .more;
-            })
-
   -- a climb that was done stays as it was while another one goes on
   kept : {h : ℕ → ℕ} {n : ℕ} {o : Option Found} (c : Compressed acc held h n o) (x : ℕ) → Full ns cs h x → c .heights x ≡ h x
   kept {h} {n} c x p =
@@ -102,25 +57,26 @@ module _ {ns : List Node} {cs : List Connection} {ex : Explain} (nodes : Accepte
     deep x k = depth-is acc held rounds x (omega (arith, depth-le cs x (accepted-forest ns cs acc))) k
 
     module _ (nesting : ℕ) (known : Known nesting) (os : List Connection) (b : Behind os cs) (few : length os ≤ nesting) where
-      abbrev between : List Climbed → ℕ → ℕ → Option Found
+      abbrev between : Between
       between = distanceBetween nesting rounds ns ex
 
       -- a connection below the meeting node is paid for
       pays : (l r i j : ℕ) → root os l ≡ root os r → Lowest cs l r i j → depth cs l ≡ i + depth cs (climbBy cs i l) →
-          (memo : List Climbed) (h : ℕ → ℕ) → Memo ns cs memo h → (c : Connection) (o : List Connection) → parentOf cs (climbBy cs (h l) l) ≡ below c o →
-          depth cs (climbBy cs i l) < depth cs (climbBy cs (h l) l) →
-          Pays acc held h (costUp ns cs 1 (climbBy cs (h l) l)) (connectionDistance between ns memo (up c .justification) (cur c) (nxt c))
+          (memo : List Climbed) (h : ℕ → ℕ) → Memo ns cs memo h → (c : Connection) (o : List Connection) → parentOf cs (onto cs h l) ≡ below c o →
+          depth cs (climbBy cs i l) < depth cs (onto cs h l) →
+          Pays acc held h (costUp ns cs 1 (onto cs h l)) (connectionDistance between ns memo (up c .justification) (cur c) (nxt c))
       unfolding ups dist
       pays l r i j same lowest d memo h m c o p u =
           let v = left-older ns acc b l r i j same lowest (h l) (omega (arith, depth-climb (h l) cs l (accepted-forest ns cs acc) (m .low l))) p in
           let w = behind-more v b in
-          let k = paid between o (known o (older w) (omega (arith, behind-length v))) c (accepted-behind ns w acc) memo h m in
-          let e : costUp ns cs 1 (climbBy cs (h l) l) ≡ costBy ns (dist ns o) (c .why) (cur c) (nxt c) =
-          add-zero _ ∙ hop-low 0 _+_ (priced ns) cs (climbBy cs (h l) l) true p in
+          let k = paid nodes acc held between o (known o (older w) (omega (arith, behind-length v))) c (accepted-behind ns w acc) memo h m in
+          let e : costUp ns cs 1 (onto cs h l) ≡ costBy ns (dist ns o) (c .why) (cur c) (nxt c) =
+          add-zero _ ∙ hop-low 0 _+_ (priced ns) cs (onto cs h l) true p in
           rw e k
 
       -- the five climbs, and what is left of two of them past the meeting node
-      module _ (l r : ℕ) (l-in : l < length ns) (r-in : r < length ns) (same : root os l ≡ root os r) (memo : List Climbed) (h : ℕ → ℕ) (m : Memo ns cs memo h) where
+      module _ (l r : ℕ) (l-in : l < length ns) (r-in : r < length ns) (same : root os l ≡ root os r)
+          (memo : List Climbed) (h : ℕ → ℕ) (m : Memo ns cs memo h) where
         abbrev f : Forest cs
         f = accepted-forest ns cs acc
 
@@ -155,7 +111,9 @@ module _ {ns : List Node} {cs : List Connection} {ex : Explain} (nodes : Accepte
         near g n = omega (arith, depth-le cs (climbBy cs (g n) n) f)
 
         top-a : Compressed acc held (to-right .heights) a (climb (to-right .memo) a none)
-        top-a = compressed acc held between (treeDepth rounds ex) a a-in rounds (to-right .memo) (to-right .heights) (to-right .holds) (near (to-right .heights) a)
+        top-a =
+            compressed acc held between (treeDepth rounds ex) a a-in rounds (to-right .memo) (to-right .heights) (to-right .holds)
+            (near (to-right .heights) a)
 
         top-l : Compressed acc held (top-a .heights) l (climb (top-a .memo) l none)
         top-l = compressed acc held between (treeDepth rounds ex) l l-in rounds (top-a .memo) (top-a .heights) (top-a .holds) (near (top-a .heights) l)
@@ -168,13 +126,15 @@ module _ {ns : List Node} {cs : List Connection} {ex : Explain} (nodes : Accepte
         left-begun j u =
             let x = climbBy cs j l in
             let v = depth-climb (to-left .heights l) cs l f (to-left .holds .low l) in
-            omega (arith, to-left .holds .begun l j (omega (arith, v, to-left .reaches, met .left)), to-right .more x, top-a .more x, top-l .more x)
+            let w = to-left .holds .begun l j (omega (arith, v, to-left .reaches, met .left)) in
+            omega (arith, w, to-right .more x, top-a .more x, top-l .more x)
 
         right-begun : (j : ℕ) → j < met .j → 0 < top-r .heights (climbBy cs j r)
         right-begun j u =
             let x = climbBy cs j r in
             let v = depth-climb (to-right .heights r) cs r f (to-right .holds .low r) in
-            omega (arith, to-right .holds .begun r j (omega (arith, v, to-right .reaches, met .right, ap (depth cs) (met .meet))), top-a .more x, top-l .more x, top-r .more x)
+            let w = to-right .holds .begun r j (omega (arith, v, to-right .reaches, met .right, ap (depth cs) (met .meet))) in
+            omega (arith, w, top-a .more x, top-l .more x, top-r .more x)
 
         full-a : Full ns cs (top-l .heights) a
         full-a = kept-full top-l a (top-a .full)
@@ -223,6 +183,9 @@ module _ {ns : List Node} {cs : List Connection} {ex : Explain} (nodes : Accepte
         between-is =
             ap (λ (x : ℕ). costUp ns cs (met .i) l + x) (sym (cost-down ns (met .j) cs r)) ∙ sym (met .whole) ∙ walk-behind 0 _+_ (priced ns) l r b same
 
+        positive : above * 2 ≤ costUp ns cs (top-l .heights l) l + costUp ns cs (top-r .heights r) r
+        positive = omega (arith, cost-l, cost-r)
+
         apart : (l ≡ r → ⊥) → Pays acc held h (dist ns os l r) (distanceBetween (suc nesting) rounds ns ex memo l r)
         unfolding distanceBetween
         apart n =
@@ -234,8 +197,8 @@ module _ {ns : List Node} {cs : List Connection} {ex : Explain} (nodes : Accepte
                   (omega (arith, met .left, met .right, depth-le cs l f, depth-le cs r f)))
                   ∙ on _ (to-left .is) ∙ on _ (to-right .is) ∙ on _ (top-a .is) ∙ on _ (top-l .is) ∙ on _ (top-r .is)
                   ∙ on _ (top-r .holds .at a a-in) ∙ on _ (top-r .holds .at l l-in) ∙ on _ (top-r .holds .at r r-in)
-                  ∙ rw (eq-eqb _ _ node-l, eq-eqb _ _ node-r, le-leb (above * 2) (costUp ns cs (top-l .heights l) l + costUp ns cs (top-r .heights r) r) (omega (arith, cost-l, cost-r)))
-                  (ap (λ (x : ℕ). some (record { memo = top-r .memo; cost = x })) (omega (arith, cost-l, cost-r, between-is))));
+                  ∙ rw (eq-eqb _ _ node-l, eq-eqb _ _ node-r, le-leb _ _ positive)
+                  (costs (top-r .memo) (omega (arith, cost-l, cost-r, between-is))));
               holds = top-r .holds;
               more = λ x. omega (arith, to-left .more x, to-right .more x, top-a .more x, top-l .more x, top-r .more x);
             }
@@ -249,7 +212,7 @@ module _ {ns : List Node} {cs : List Connection} {ex : Explain} (nodes : Accepte
               record {
                 memo = memo;
                 heights = h;
-                is = rw (eq-eqb l r e) (ap (λ (x : ℕ). some (record { memo = memo; cost = x })) (sym (ap (λ (x : ℕ). dist ns os x r) e ∙ dist-self ns os r)));
+                is = rw (eq-eqb l r e) (costs memo (sym (ap (λ (x : ℕ). dist ns os x r) e ∙ dist-self ns os r)));
                 holds = m;
                 more = λ x. omega arith;
               }

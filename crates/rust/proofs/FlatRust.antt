@@ -1,13 +1,13 @@
 -- The Rust's tree of proofs between two joined nodes, flattened, is document 01's flat proof.
 use Prim.Native.Nat.{ℕ, zero, suc, _*_, _≤_, _<_}
 use mathlib.Core.Path.{_≡_, refl, sym, ap, _∙_}
-use mathlib.Core.Bool.{Bool, true, false, not}
+use mathlib.Core.Bool.{true, false}
 use mathlib.Core.List.{List, [], _∷_, _++_, map, map-append, append-assoc, append-nil}
 use mathlib.Core.Option.{Option, none, some}
 use native.Mathlib.Omega.{arith}
 use lib.ListN.{length}
 use Rattle.model.specs.declared.Connection.{Connection as TableConnection}
-use Rattle.model.specs.Term.{Terms, noTerms, Term, join, one, strip}
+use Rattle.model.specs.Term.{Terms, noTerms, join, one, strip}
 use Rattle.model.specs.Node.{Node, opOf, termOf}
 use Rattle.model.specs.Forest.{cur, nxt, root, Hop, path}
 use Rattle.model.specs.Flat.{laterStep, later, flatProof}
@@ -17,24 +17,21 @@ use Rattle.paths.proofs.Accept.{accepted-loose, sound}
 use Rattle.paths.proofs.Climbed.{hopOf}
 use Rattle.flat.specs.Ends.{lastOr, last, Leads}
 use Rattle.flat.specs.Nodes.{AcceptedNodes}
-use Rattle.flat.proofs.NodeTerms.{term-is, term-strip}
+use Rattle.flat.proofs.NodeTerms.{term-strip}
 use Rattle.flat.proofs.Within.{last-join, last-alike, leads-join}
 use Rattle.flat.proofs.Twins.{twins, twins-back}
 use Rattle.flat.proofs.Walked.{walked}
 use Rattle.flat.proofs.Way.{way-up, way-down}
-use Rattle.rust.specs.Panics.{_>>=_}
 use Rattle.rust.specs.Explain.{Connection, Explain}
-use Rattle.rust.specs.Paths.{getPath, walked as walkedOf}
-use Rattle.rust.specs.Flatten.{Trees, noTrees, treeTerm, noFlats, flatTerm, appended, flattenExplanation, flattenProof}
+use Rattle.rust.specs.Flatten.{Trees, noTrees, treeTerm, flattenProof}
 use Rattle.rust.specs.Trees.{TreeTerm, before, explainAdjacent, explainAll, explainEnodes}
 use Rattle.rust.proofs.Vectors.{on, off}
-use Rattle.rust.specs.Read.{up, down, asWalked}
+use Rattle.rust.specs.Read.{up, asWalked}
 use Rattle.rust.proofs.Built.{Holds}
 use Rattle.rust.proofs.Behind.{Behind, all, older, accepted-behind, root-behind, walk-behind}
-use Rattle.rust.proofs.PathRust.{Walks}
 use Rattle.rust.proofs.MemoRust.{optimized, no-optimized}
 use Rattle.rust.proofs.Flats.{flats}
-use Rattle.rust.proofs.NodeTrees.{Planted, planted, planted-flat}
+use Rattle.rust.proofs.NodeTrees.{planted, planted-flat, plain-term}
 use Rattle.rust.proofs.Adjacent.{Explained, Adjoins, adjoins-up, adjoins-down}
 
 -- one explanation behind another
@@ -128,17 +125,19 @@ module _ {ns : List Node} {cs : List TableConnection} {ex : Explain} (nodes : Ac
         Appends ns adj (cur c) (nxt c) (record { conn = c; up = true } ∷ []) (laterStep ns os (later ns os) c true)
     own-up c os k =
         let s = sound (k .accepted .0) in
-        appends-one ns adj nodes (cur c) (nxt c) (record { conn = c; up = true }) (laterStep ns os (later ns os) c true) (way-up ns nodes c os (k .accepted) .arrives)
-        (adjoins-up nodes os (k .accepted .1) enodes (known os (older (k .behind)) (omega (arith, k .few))) rounds room (cur c) (nxt c) (s .current-in) (s .next-in) (c .why)
-        (twins (k .accepted)))
+        appends-one ns adj nodes (cur c) (nxt c) (record { conn = c; up = true }) (laterStep ns os (later ns os) c true)
+        (way-up ns nodes c os (k .accepted) .arrives)
+        (adjoins-up nodes os (k .accepted .1) enodes (known os (older (k .behind)) (omega (arith, k .few))) rounds room
+        (cur c) (nxt c) (s .current-in) (s .next-in) (c .why) (twins (k .accepted)))
 
     own-down : (c : TableConnection) (os : List TableConnection) → Within nesting (c ∷ os) →
         Appends ns adj (nxt c) (cur c) (record { conn = c; up = false } ∷ []) (laterStep ns os (later ns os) c false)
     own-down c os k =
         let s = sound (k .accepted .0) in
-        appends-one ns adj nodes (nxt c) (cur c) (record { conn = c; up = false }) (laterStep ns os (later ns os) c false) (way-down ns nodes c os (k .accepted) .arrives)
-        (adjoins-down nodes os (k .accepted .1) enodes (known os (older (k .behind)) (omega (arith, k .few))) rounds room (nxt c) (cur c) (s .next-in) (s .current-in) (c .why)
-        (twins-back (k .accepted)))
+        appends-one ns adj nodes (nxt c) (cur c) (record { conn = c; up = false }) (laterStep ns os (later ns os) c false)
+        (way-down ns nodes c os (k .accepted) .arrives)
+        (adjoins-down nodes os (k .accepted .1) enodes (known os (older (k .behind)) (omega (arith, k .few))) rounds room
+        (nxt c) (cur c) (s .next-in) (s .current-in) (c .why) (twins-back (k .accepted)))
 
     appends : (os : List TableConnection) → Within nesting os → (l r : ℕ) → root os l ≡ root os r → Appends ns adj l r (path os l r) (later ns os l r)
     unfolding path later
@@ -148,11 +147,6 @@ module _ {ns : List Node} {cs : List TableConnection} {ex : Explain} (nodes : Ac
         (λ os k. accepted-loose ns os (k .accepted))
         (λ c os k _. own-up c os k)
         (λ c os k _. own-down c os k)
-
-    plain-term : (l : ℕ) → flatTerm (opOf ns l) none none (flats (termOf ns l .kids)) noFlats ≡ flats (one (termOf ns l))
-    unfolding flats
-    plain-term l =
-        ap (λ (x : Term). flatTerm (opOf ns l) none none (flats (x .kids)) noFlats) (term-is ns nodes l) ∙ ap (λ (x : Term). flats (one x)) (sym (term-is ns nodes l))
 
     explained : (os : List TableConnection) → Behind os cs → length os ≤ nesting → (l r : ℕ) → l < length ns → r < length ns → root os l ≡ root os r →
         Explained ns os l r (explainEnodes (suc nesting) rounds ns ex l r)
@@ -170,7 +164,7 @@ module _ {ns : List Node} {cs : List TableConnection} {ex : Explain} (nodes : Ac
               ∙ on _ (ap (explainAll adj) (w .same ∙ ap (map asWalked) (walk-behind [] _++_ hopOf l r b same) ∙ sym (append-nil (map asWalked (path os l r))))
               ∙ a .is [] noTrees refl ∙ ap some (followed-none (a .trees)));
           flat = on _ (p .children) ∙ on _ (planted-flat ns nodes l none none)
-              ∙ ap (flattenProof (a .trees)) (plain-term l)
+              ∙ ap (flattenProof (a .trees)) (plain-term ns nodes l)
               ∙ ap (λ (x : Trees). flattenProof x (flats (one t))) (sym (followed-none (a .trees)))
               ∙ a .folds (one t) (term-strip ns l) noTrees;
         }

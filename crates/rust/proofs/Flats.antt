@@ -1,17 +1,16 @@
 -- The model's terms as the Rust's flat terms, and what the Rust's operations on flat terms are on them.
-use Prim.Native.Nat.{ℕ, zero, suc, _+_, _<_}
-use mathlib.Core.Path.{_≡_, refl, sym, ap, ap₂, _∙_}
-use mathlib.Core.Bool.{Bool, true, false, cond}
+use Prim.Native.Nat.{ℕ, suc, _+_, _<_}
+use mathlib.Core.Path.{_≡_, refl, ap, ap₂, _∙_}
+use mathlib.Core.Bool.{false}
 use mathlib.Core.Option.{Option, none, some}
 use native.Mathlib.Omega.{arith}
 use borrow.Author.Tests.{eq-eqb, ne-eqb}
 use Rattle.model.specs.declared.Direction.the-variants.{Forward, Backward}
 use Rattle.model.specs.Term.{Mark, unmarked, marked, Terms, noTerms, tree, count, join, strip}
 use Rattle.model.specs.Flat.{within}
-use Rattle.terms.proofs.Rows.{join-assoc, join-none, count-join}
 use Rattle.flat.specs.Ends.{lastOr, last}
-use Rattle.rust.specs.Panics.{_>>=_}
-use Rattle.rust.specs.Flatten.{Flats, noFlats, flatTerm, lastOf, dropLast, extend, hasForward, hasBackward, removeRewrites, combineRewrites, appended, setTerm, replaced, pushed}
+use Rattle.rust.specs.Flatten.{Flats, noFlats, flatTerm, lastOf, dropLast, extend}
+use Rattle.rust.specs.Flatten.{hasForward, hasBackward, removeRewrites, combineRewrites, setTerm, replaced, pushed}
 use Rattle.rust.specs.Read.{markOf, termsOf}
 use Rattle.rust.proofs.Vectors.{on}
 

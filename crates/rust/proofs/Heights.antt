@@ -1,20 +1,20 @@
 -- What the Rust's memo of distances holds: for each node how far its climb has come, and what that costs.
 use Prim.Native.Nat.{ℕ, zero, suc, _+_, _-_, _≤_, _<_}
-use mathlib.Core.Path.{_≡_, refl, sym, ap, ap₂, _∙_, subst}
+use mathlib.Core.Path.{_≡_, refl, ap, ap₂, _∙_}
 use mathlib.Core.Bool.{Bool, true, false, cond}
-use mathlib.Core.List.{List, [], _∷_}
-use mathlib.Core.Option.{Option, none, some}
+use mathlib.Core.List.{List}
+use mathlib.Core.Option.{some}
 use native.Mathlib.Omega.{arith}
 use native.Mathlib.Decide.{ℕ-discrete, decLe}
 use borrow.Author.Tests.{eq-eqb, ne-eqb}
 use lib.Dec.{eqb}
-use lib.ListN.{length, getElem?, set, length-set}
+use lib.ListN.{length, getElem?, length-set}
 use Rattle.model.specs.declared.Connection.{Connection}
 use Rattle.model.specs.Node.{Node}
-use Rattle.model.specs.Forest.{cur, nxt, walk, costBy, dist, Parent, top, below, parentOf}
-use Rattle.paths.specs.Hangs.{nextOf, depth, Forest}
-use Rattle.paths.proofs.Ways.{climbBy, depth-climb, hop, ups, downs}
-use Rattle.rust.specs.Distances.{Climbed, Found, setClimbed}
+use Rattle.model.specs.Forest.{cur, nxt, costBy, Parent, top, below, parentOf}
+use Rattle.paths.specs.Hangs.{nextOf, depth}
+use Rattle.paths.proofs.Ways.{climbBy, hop, ups, downs}
+use Rattle.rust.specs.Distances.{Climbed, setClimbed}
 use Rattle.rust.proofs.Vectors.{set-same, set-other}
 
 -- a climb in two parts
@@ -46,6 +46,13 @@ module _ (ns : List Node) where
       same-hop top q = rw q refl
       same-hop (below c o) q = rw q refl
 
+-- the node that a climb has come to, and the height that it has once it is joined to that node's own
+abbrev pub onto : List Connection → (ℕ → ℕ) → ℕ → ℕ
+onto cs h n = climbBy cs (h n) n
+
+abbrev pub far : List Connection → (ℕ → ℕ) → ℕ → ℕ
+far cs h n = h n + h (onto cs h n)
+
 -- a node's height changed
 unfoldable pub over : (ℕ → ℕ) → ℕ → ℕ → ℕ → ℕ
 over h i k n = cond (eqb n i) k (h n)
@@ -60,7 +67,7 @@ over-other h i k n p = rw (ne-eqb n i p) refl
 
 module _ (ns : List Node) (cs : List Connection) where
   abbrev pub entry : (ℕ → ℕ) → ℕ → Climbed
-  entry h n = record { node = climbBy cs (h n) n; cost = costUp ns cs (h n) n }
+  entry h n = record { node = onto cs h n; cost = costUp ns cs (h n) n }
 
   -- each node of the table has climbed as its height says, and every node that it has climbed past has begun its own climb
   pub record Memo (memo : List Climbed) (h : ℕ → ℕ) : Type 0 where
@@ -109,7 +116,7 @@ module _ (ns : List Node) (cs : List Connection) where
 
   -- a climb that is done has come to a node whose own has not begun: then heights add up
   abbrev pub Full : (ℕ → ℕ) → ℕ → Type 0
-  Full h n = h (climbBy cs (h n) n) ≡ 0
+  Full h n = h (onto cs h n) ≡ 0
 
   pub adds-up : (memo : List Climbed) (h : ℕ → ℕ) → Memo memo h → (n i : ℕ) → Full h n → Full h (climbBy cs i n) → ((j : ℕ) → j < i → 0 < h (climbBy cs j n)) →
       h n ≡ i + h (climbBy cs i n)

@@ -1,6 +1,6 @@
 -- A climb from a node of the table stays in the table, and follows the parent connections that the Rust holds.
 use Prim.Native.Nat.{ℕ, zero, suc, _≤_, _<_}
-use mathlib.Core.Path.{_≡_, refl, sym, ap, _∙_, subst}
+use mathlib.Core.Path.{_≡_, refl, sym, ap, _∙_}
 use mathlib.Core.Bool.{true, and-eq-true-iff}
 use mathlib.Core.List.{List, [], _∷_}
 use mathlib.Core.Option.{some}
@@ -10,14 +10,14 @@ use borrow.Author.Tests.{ltb-true}
 use lib.ListN.{length}
 use Rattle.model.specs.declared.Connection.{Connection as TableConnection}
 use Rattle.model.specs.Node.{Node, kidsOf, allBelow}
-use Rattle.model.specs.Forest.{cur, nxt, Parent, top, below, parentOf}
+use Rattle.model.specs.Forest.{cur, Parent, top, below, parentOf}
 use Rattle.paths.specs.Hangs.{nextOf, Accepted}
 use Rattle.paths.proofs.Accept.{sound}
 use Rattle.paths.proofs.Laws.{parent-new, parent-old, no-parent}
 use Rattle.paths.proofs.Places.{next-below, next-top}
 use Rattle.paths.proofs.Ways.{climbBy}
 use Rattle.flat.specs.Nodes.{AcceptedNodes}
-use Rattle.rust.specs.Explain.{Connection, Explain, alone}
+use Rattle.rust.specs.Explain.{Explain}
 use Rattle.rust.specs.Paths.{parentConnection}
 use Rattle.rust.proofs.Vectors.{on}
 use Rattle.rust.proofs.Behind.{Behind, all, newer}
@@ -77,8 +77,8 @@ pub parent-is : {ns : List Node} {cs : List TableConnection} {e : Explain} → H
     parentConnection e n ≡ some (parentIn cs n)
 parent-is h n k = on _ (h .at n k)
 
-pub parent-up : {ns : List Node} {cs : List TableConnection} {e : Explain} → Holds ns cs e → (n : ℕ) → n < length ns → {c : TableConnection} {o : List TableConnection} →
-    parentOf cs n ≡ below c o → parentConnection e n ≡ some (up c)
+pub parent-up : {ns : List Node} {cs : List TableConnection} {e : Explain} → Holds ns cs e → (n : ℕ) → n < length ns →
+    {c : TableConnection} {o : List TableConnection} → parentOf cs n ≡ below c o → parentConnection e n ≡ some (up c)
 parent-up {cs = cs} h n k q = parent-is h n k ∙ ap some (parent-below cs n q)
 
 -- the children of a node of the table are nodes of the table

@@ -10,10 +10,12 @@ pub mod Olders
 pub mod Heights
 pub mod Climbing
 pub mod Reaching
+pub mod Paying
 pub mod DistanceRust
 pub mod Flats
 pub mod ChildLoop
 pub mod NodeTrees
 pub mod Adjacent
 pub mod FlatRust
+pub mod Fingerprints
 pub mod TheRust

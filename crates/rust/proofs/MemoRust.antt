@@ -1,7 +1,7 @@
 -- The memo that `union` fills changes no path: a pair that it holds is joined by one rule connection, which is the path without it.
 use Prim.Native.Nat.{ℕ, zero, suc, _*_, _<_}
 use mathlib.Core.Path.{_≡_, refl, sym, ap, _∙_}
-use mathlib.Core.Bool.{Bool, true, false, cond, _&&_, true≢false, false≢true}
+use mathlib.Core.Bool.{Bool, true, false, cond, _&&_, false≢true}
 use mathlib.Core.List.{List, [], _∷_, _++_, map, append-assoc}
 use mathlib.Core.Logic.{_⊎_, inl, inr, ⊎-elim}
 use mathlib.Core.Option.{Option, none, some, Option·some-injective as some-injective, Option·none-ne-some as none-ne-some}
@@ -18,9 +18,8 @@ use Rattle.paths.proofs.Accept.{sound}
 use Rattle.paths.proofs.Joined.{root-ends, path-old, path-self}
 use Rattle.paths.proofs.Laws.{root-old, walk-up, walk-down, walk-self}
 use Rattle.paths.proofs.Climbed.{hopOf}
-use Rattle.rust.specs.Panics.{_>>=_}
-use Rattle.rust.specs.Explain.{Justification, rule, congruence, Connection, Memoed, Explain, memoed, remember, justified}
-use Rattle.rust.specs.Paths.{isRule, neighborTo, getNeighbor, Path, getPathUnoptimized, getPath, turnedFrom, walked}
+use Rattle.rust.specs.Explain.{Justification, rule, congruence, Connection, Memoed, Explain, memoed, justified}
+use Rattle.rust.specs.Paths.{isRule, neighborTo, getPath, turnedFrom}
 use Rattle.rust.proofs.Vectors.{on, off}
 use Rattle.rust.specs.Read.{up, down, asWalked}
 use Rattle.rust.proofs.Built.{neighborsIn, memoIn, Holds}
@@ -43,7 +42,8 @@ skipped : (x : Connection) (xs : List Connection) (l r : ℕ) → (x .next ≡ r
 unfolding neighborTo
 skipped x xs l r n = rw (ne-eqb (x .next) r n) refl
 
-none-there : (cs : List TableConnection) (ys : List Connection) (l r : ℕ) → (root cs l ≡ root cs r → ⊥) → neighborTo (neighborsIn cs l ++ ys) l r ≡ neighborTo ys l r
+none-there : (cs : List TableConnection) (ys : List Connection) (l r : ℕ) → (root cs l ≡ root cs r → ⊥) →
+    neighborTo (neighborsIn cs l ++ ys) l r ≡ neighborTo ys l r
 unfolding neighborsIn
 none-there [] ys l r n = refl
 none-there (c ∷ cs) ys l r n =
@@ -181,7 +181,8 @@ known ns (c ∷ cs) a l r next p = go (justified (c .why)) refl (known ns cs (a 
     go congruence q rec = known-old c cs l r next (rec (rw q at p))
 
 -- at the right node the loop ends
-arrived : (rounds : ℕ) (ex : Explain) (lefts : List Connection) (n r : ℕ) → 0 < rounds → n ≡ r → getPath rounds ex lefts n r ≡ some (record { lefts = lefts; rights = [] })
+arrived : (rounds : ℕ) (ex : Explain) (lefts : List Connection) (n r : ℕ) → 0 < rounds → n ≡ r →
+    getPath rounds ex lefts n r ≡ some (record { lefts = lefts; rights = [] })
 unfolding getPath
 arrived zero ex lefts n r h p = absurd (omega arith)
 arrived (suc rounds) ex lefts n r h p = rw (eq-eqb n r p) refl
@@ -192,8 +193,8 @@ some-connection [] l r next p = absurd (none-ne-some next p)
 some-connection (c ∷ cs) l r next p = omega arith
 
 -- one round and more
-module _ {ns : List Node} {cs : List TableConnection} {ex : Explain} (acc : Accepted ns cs) (held : Holds ns cs ex) (rounds : ℕ) (enough : 2 * length cs < suc rounds)
-    (l r : ℕ) (l-in : l < length ns) (r-in : r < length ns) where
+module _ {ns : List Node} {cs : List TableConnection} {ex : Explain} (acc : Accepted ns cs) (held : Holds ns cs ex)
+    (rounds : ℕ) (enough : 2 * length cs < suc rounds) (l r : ℕ) (l-in : l < length ns) (r-in : r < length ns) where
   in-memo : {o : Option ℕ} → memoed (memoIn cs) l r ≡ o → memoed (ex .memo) l r ≡ o
   in-memo p = ap (λ (m : List Memoed). memoed m l r) (held .memo) ∙ p
 

@@ -11,8 +11,7 @@ use Rattle.model.specs.Flat.{within, runs}
 use Rattle.flat.specs.Ends.{lastOr}
 use Rattle.flat.specs.Nodes.{AcceptedNodes}
 use Rattle.flat.proofs.NodeTerms.{term-is}
-use Rattle.rust.specs.Panics.{_>>=_}
-use Rattle.rust.specs.Flatten.{noTrees, Proofs, noProofs, proofOf, Flats, noFlats, flatTerm, flattenExplanation, appended, flattenProof, flattenChildren}
+use Rattle.rust.specs.Flatten.{noTrees, Proofs, noProofs, proofOf, noFlats, flatTerm, flattenExplanation, appended, flattenProof, flattenChildren}
 use Rattle.rust.specs.Trees.{TreeTerm, before, childExplanations, nodeToExplanation}
 use Rattle.rust.proofs.Vectors.{on, elem-default}
 use Rattle.rust.proofs.Inside.{Kids, kids-lower}
@@ -52,13 +51,17 @@ module _ (ns : List Node) where
         ∙ ap (λ (x : Terms). some (flatTerm (opOf ns n) b f (flats (row (termOf ns) (kidsOf ns n))) (flats x))) (no-runs (opOf ns n) noTerms (kidsOf ns n))
         ∙ ap (λ (x : Term). some (flatTerm (opOf ns n) b f (flats (x .kids)) noFlats)) (sym (term-is ns nodes n))
 
+    pub plain-term : (n : ℕ) → flatTerm (opOf ns n) none none (flats (termOf ns n .kids)) noFlats ≡ flats (one (termOf ns n))
+    unfolding flats
+    plain-term n =
+        ap (λ (x : Term). flatTerm (opOf ns n) none none (flats (x .kids)) noFlats) (term-is ns nodes n)
+        ∙ ap (λ (x : Term). flats (one x)) (sym (term-is ns nodes n))
+
     planted-alone : (n : ℕ) (ps : Proofs) → flattenChildren ps ≡ some (childFlats ns nothing (kidsOf ns n) (kidsOf ns n)) →
         flattenProof (before (asTree n ps) noTrees) noFlats ≡ some (flats (one (termOf ns n)))
     unfolding flattenProof appended flats
     planted-alone n ps p =
-        on _ p ∙ on _ (planted-flat n none none)
-        ∙ ap (λ (x : Term). some (flatTerm (opOf ns n) none none (flats (x .kids)) noFlats)) (term-is ns nodes n)
-        ∙ ap (λ (x : Term). some (flats (one x))) (sym (term-is ns nodes n))
+        on _ p ∙ on _ (planted-flat n none none) ∙ ap some (plain-term n)
 
     module _ (rounds : ℕ) (rec : (n : ℕ) → n < rounds → n < length ns → Planted n (nodeToExplanation rounds ns n)) where
       record Grown (xs : List ℕ) : Type 0 where

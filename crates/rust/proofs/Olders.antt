@@ -1,14 +1,13 @@
 -- The connections between two nodes that older connections join are older ones.
-use Prim.Native.Nat.{ℕ, _+_, _≤_, _<_}
-use mathlib.Core.Path.{_≡_, refl, sym, ap, _∙_, subst}
+use Prim.Native.Nat.{ℕ, _+_, _<_}
+use mathlib.Core.Path.{_≡_, sym, ap, _∙_}
 use mathlib.Core.List.{List, _∷_}
 use native.Mathlib.Omega.{arith}
 use native.Mathlib.Nat.{add-assoc, zero-add, add-zero}
-use lib.ListN.{length}
 use Rattle.model.specs.declared.Connection.{Connection}
 use Rattle.model.specs.Node.{Node}
 use Rattle.model.specs.Forest.{root, below, parentOf}
-use Rattle.paths.specs.Hangs.{depth, Accepted}
+use Rattle.paths.specs.Hangs.{Accepted}
 use Rattle.paths.proofs.Accept.{accepted-forest}
 use Rattle.paths.proofs.Places.{high, low, place}
 use Rattle.paths.proofs.Ways.{climbBy, depth-climb, Lowest, meets}

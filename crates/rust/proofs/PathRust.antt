@@ -1,23 +1,21 @@
 -- The Rust's path between two nodes, without its memo, is document 01's.
 use Prim.Native.Nat.{ℕ, zero, suc, _+_, _*_, _≤_, _<_}
 use mathlib.Core.Path.{_≡_, refl, sym, ap, ap₂, _∙_}
-use mathlib.Core.Bool.{Bool, true, false, cond}
+use mathlib.Core.Bool.{Bool, true, false}
 use mathlib.Core.List.{List, [], _∷_, _++_, map, reverse, append-assoc, append-nil, map-append, reverse-cons}
 use mathlib.Core.Option.{Option, none, some}
 use native.Mathlib.Omega.{arith}
 use borrow.Author.Tests.{eq-eqb, ne-eqb, le-leb, lt-leb}
-use lib.Dec.{leb}
 use lib.ListN.{length}
 use Rattle.model.specs.declared.Connection.{Connection as TableConnection}
 use Rattle.model.specs.Node.{Node}
-use Rattle.model.specs.Forest.{nxt, root, Hop, path}
+use Rattle.model.specs.Forest.{nxt, root, path}
 use Rattle.paths.specs.Hangs.{nextOf, depth, Forest, Accepted}
 use Rattle.paths.proofs.Accept.{accepted-forest}
 use Rattle.paths.proofs.Bound.{depth-le}
 use Rattle.paths.proofs.Places.{high, low, place}
 use Rattle.paths.proofs.Ways.{climbBy, depth-climb, hop-low, ups, downs, meets}
 use Rattle.paths.proofs.Climbed.{hopOf}
-use Rattle.rust.specs.Panics.{_>>=_}
 use Rattle.rust.specs.Explain.{Connection, Explain}
 use Rattle.rust.specs.Paths.{connectionsFrom, getConnections, Path, getPathUnoptimized, turned, turnedFrom, walked}
 use Rattle.rust.proofs.Vectors.{on, off}
@@ -59,7 +57,8 @@ module _ {ns : List Node} {cs : List TableConnection} {ex : Explain} (acc : Acce
             let x = nextOf cs n in
             on _ (parent-up held n m a)
             ∙ rw (ne-eqb (nxt c) (climbBy cs (suc i) x) (λ q. other i x (omega arith) (sym (b ∙ q))), ne-eqb (nxt c) n (λ q. other 0 n (omega arith) (b ∙ q)))
-            (on _ (ap (λ (y : ℕ). connectionsFrom rounds ex y (climbBy cs (suc i) x)) (sym b) ∙ from i rounds x (omega arith) (omega arith) (next-inside ns cs acc n m))
+            (on _ (ap (λ (y : ℕ). connectionsFrom rounds ex y (climbBy cs (suc i) x)) (sym b)
+            ∙ from i rounds x (omega arith) (omega arith) (next-inside ns cs acc n m))
             ∙ ap (λ (y : List Connection). some (y ++ connectionsUp cs (suc i) x)) (sym (hop-low [] _++_ connOf cs n true a)))
       ]
 
@@ -116,8 +115,8 @@ pub record Walks (cs : List TableConnection) (l r : ℕ) (found : Option Path) :
   pub is : found ≡ some way
   pub same : walked way ≡ map asWalked (path cs l r)
 
-module _ {ns : List Node} {cs : List TableConnection} {ex : Explain} (acc : Accepted ns cs) (held : Holds ns cs ex) (rounds : ℕ) (enough : 2 * length cs < rounds)
-    (l r : ℕ) (l-in : l < length ns) (r-in : r < length ns) where
+module _ {ns : List Node} {cs : List TableConnection} {ex : Explain} (acc : Accepted ns cs) (held : Holds ns cs ex)
+    (rounds : ℕ) (enough : 2 * length cs < rounds) (l r : ℕ) (l-in : l < length ns) (r-in : r < length ns) where
   pub unoptimized : root cs l ≡ root cs r → Walks cs l r (getPathUnoptimized rounds ex l r)
   unfolding getPathUnoptimized path
   unoptimized same =

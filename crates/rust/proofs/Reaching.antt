@@ -3,7 +3,7 @@ use Prim.Native.Nat.{ℕ, zero, suc, _+_, _*_, _≤_, _<_}
 use mathlib.Core.Path.{_≡_, refl, sym, ap, _∙_}
 use mathlib.Core.Bool.{Bool, true, false}
 use mathlib.Core.List.{List}
-use mathlib.Core.Option.{Option, none, some}
+use mathlib.Core.Option.{Option, some}
 use native.Mathlib.Omega.{arith}
 use native.Mathlib.Decide.{ℕ-discrete, decLe}
 use borrow.Author.Tests.{le-leb, lt-leb}
@@ -18,13 +18,13 @@ use Rattle.paths.proofs.Bound.{depth-le}
 use Rattle.paths.proofs.Places.{high, low, place, next-below}
 use Rattle.paths.proofs.Ways.{climbBy, depth-climb, next-high}
 use Rattle.rust.specs.Explain.{Explain}
-use Rattle.rust.specs.Distances.{Climbed, Found, connectionDistance, setClimbed, past}
+use Rattle.rust.specs.Distances.{Climbed, Found, Between, connectionDistance, setClimbed, past}
 use Rattle.rust.proofs.Vectors.{on}
 use Rattle.rust.specs.Read.{up}
 use Rattle.rust.proofs.Built.{Holds}
 use Rattle.rust.proofs.Inside.{climb-inside}
-use Rattle.rust.proofs.Heights.{costUp, over, over-same, over-other, Memo, raised}
-use Rattle.rust.proofs.Climbing.{loop, ends, joins, stops, pays-on, onto, far, joined-memo, higher, top-depth, more-over, Reached, Pays}
+use Rattle.rust.proofs.Heights.{costUp, onto, far, over, over-same, over-other, Memo, raised}
+use Rattle.rust.proofs.Climbing.{loop, ends, joins, stops, pays-on, joined-memo, higher, top-depth, more-over, Reached, Pays}
 
 -- a node that has not begun costs one round more
 abbrev waits : ℕ → ℕ
@@ -41,23 +41,23 @@ waits-not (suc k) h = refl
 
 module _ {ns : List Node} {cs : List Connection} {ex : Explain} (acc : Accepted ns cs) (held : Holds ns cs ex) where
   abbrev pub measure : (ℕ → ℕ) → ℕ → ℕ
-  measure h n = 2 * depth cs (climbBy cs (h n) n) + waits (h (climbBy cs (h n) n))
+  measure h n = 2 * depth cs (onto cs h n) + waits (h (onto cs h n))
 
   pub measure-little : (h : ℕ → ℕ) (n : ℕ) → measure h n ≤ 2 * length cs + 1
   measure-little h n =
-      let x = climbBy cs (h n) n in
+      let x = onto cs h n in
       omega (arith, depth-le cs x (accepted-forest ns cs acc), waits-little (h x))
 
-  module _ (between : List Climbed → ℕ → ℕ → Option Found) (depths : ℕ → Option ℕ) (deep : (x : ℕ) → x < length ns → depths x ≡ some (depth cs x))
+  module _ (between : Between) (depths : ℕ → Option ℕ) (deep : (x : ℕ) → x < length ns → depths x ≡ some (depth cs x))
       (n a : ℕ) (k : n < length ns) (l : a < length ns)
-      (pays : (memo : List Climbed) (h : ℕ → ℕ) → Memo ns cs memo h → (c : Connection) (o : List Connection) → parentOf cs (climbBy cs (h n) n) ≡ below c o →
-      depth cs a < depth cs (climbBy cs (h n) n) →
-      Pays acc held h (costUp ns cs 1 (climbBy cs (h n) n)) (connectionDistance between ns memo (up c .justification) (cur c) (nxt c))) where
+      (pays : (memo : List Climbed) (h : ℕ → ℕ) → Memo ns cs memo h → (c : Connection) (o : List Connection) → parentOf cs (onto cs h n) ≡ below c o →
+      depth cs a < depth cs (onto cs h n) →
+      Pays acc held h (costUp ns cs 1 (onto cs h n)) (connectionDistance between ns memo (up c .justification) (cur c) (nxt c))) where
     abbrev go : ℕ → List Climbed → Option Found
     go rounds memo = loop acc held between depths rounds memo n (some a)
 
     abbrev at : (ℕ → ℕ) → ℕ
-    at h = climbBy cs (h n) n
+    at h = onto cs h n
 
     there : (rounds : ℕ) (memo : List Climbed) (h : ℕ → ℕ) → Memo ns cs memo h → depth cs (at h) ≤ depth cs a →
         go (suc rounds) memo ≡ some (record { memo = memo; cost = costUp ns cs (h n) n }) → Reached acc held h n a (go (suc rounds) memo)
@@ -118,7 +118,9 @@ module _ {ns : List Node} {cs : List Connection} {ex : Explain} (acc : Accepted 
     reached zero memo h m u = absurd (omega arith)
     reached (suc rounds) memo h m u =
         elim (place cs (at h) (accepted-forest ns cs acc)) [
-          | high x y ↦ there rounds memo h m (omega arith) (ends acc held between depths rounds memo h n (some a) m k (next-high cs (at h) (accepted-forest ns cs acc) x y))
+          | high x y ↦
+              there rounds memo h m (omega arith)
+              (ends acc held between depths rounds memo h n (some a) m k (next-high cs (at h) (accepted-forest ns cs acc) x y))
           | low c o b q t ↦
               let away : nextOf cs (at h) ≡ at h → ⊥ = λ e. omega (arith, top-depth acc held (at h) e) in
               elim (ℕ-discrete (h (at h)) 0) [
@@ -132,9 +134,10 @@ module _ {ns : List Node} {cs : List Connection} {ex : Explain} (acc : Accepted 
                 ]
                 | no z ↦
                     let v : 0 < h (at h) = omega arith in
-                    again rounds memo _ h (over h n (far acc held h n)) (λ x. more-over acc held h n (far acc held h n) x (omega arith))
+                    let joined = over h n (far cs h n) in
+                    again rounds memo _ h joined (λ x. more-over acc held h n (far cs h n) x (omega arith))
                     (joins acc held between depths rounds memo h n (some a) m k away v)
-                    (reached rounds _ (over h n (far acc held h n)) (joined-memo acc held memo h n m k v)
-                    (omega (arith, higher acc held memo h n m k v, waits-not (h (at h)) v, waits-little (over h n (far acc held h n) (at (over h n (far acc held h n)))))))
+                    (reached rounds _ joined (joined-memo acc held memo h n m k v)
+                    (omega (arith, higher acc held memo h n m k v, waits-not (h (at h)) v, waits-little (joined (at joined)))))
               ]
         ]

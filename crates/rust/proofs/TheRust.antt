@@ -1,13 +1,14 @@
 -- THE RUST ON VALUES IS DOCUMENT 01. On tables judged good, for any two nodes of the node table: the Rust's path, distance and flat proof are document 01's
 -- where connections join the two, and it panics (`none`) where none do. The memo that `union` fills changes no path.
 -- `nesting` and `rounds` bound the Rust's calls and loops, which have no bound themselves; any that are large enough will do.
-use Prim.Native.Nat.{ℕ, suc, _+_, _*_, _≤_, _<_}
+use Prim.Native.Nat.{ℕ, _+_, _*_, _≤_, _<_}
 use mathlib.Core.Path.{_≡_, refl, sym, ap, _∙_}
 use mathlib.Core.Bool.{Bool, true, false}
-use mathlib.Core.List.{List, [], map}
+use mathlib.Core.List.{List, map}
 use mathlib.Core.Option.{Option, none, some}
 use native.Mathlib.Omega.{arith}
 use lib.ListN.{length}
+use Rattle.model.specs.declared.Connection.{Connection}
 use Rattle.model.specs.Judged.{good}
 use Rattle.model.specs.Node.{Node}
 use Rattle.model.specs.Forest.{root, joined, path, dist}
@@ -15,12 +16,10 @@ use Rattle.model.specs.Flat.{flatProof}
 use Rattle.model.specs.Query.{Tables}
 use Rattle.model.specs.Tables.{onlyIf, judgeTables}
 use Rattle.paths.proofs.Joined.{joined-root, apart-root}
+use Rattle.flat.specs.Accepted.{AcceptedTables}
 use Rattle.flat.proofs.Tables.{tables-accepted}
 use Rattle.rust.specs.Panics.{_>>=_}
-use Rattle.rust.specs.Explain.{Connection, explainOf}
-use Rattle.rust.specs.Paths.{walked}
-use Rattle.rust.specs.Flatten.{flattenProof, noFlats}
-use Rattle.rust.specs.Read.{asWalked, termsOf, rustPath, rustPathUnoptimized, rustDistance, rustFlat}
+use Rattle.rust.specs.Read.{asWalked, rustPath, rustPathUnoptimized, rustDistance, rustFlat}
 use Rattle.rust.proofs.Vectors.{on, off}
 use Rattle.rust.proofs.Built.{Built, built}
 use Rattle.rust.proofs.PathRust.{unoptimized, no-unoptimized}
@@ -49,43 +48,53 @@ module _ (nws rws cws : List ℕ) (t : Tables) (accepted : judgeTables nws rws c
   abbrev ns : List Node
   ns = t .nodes
 
-  forest : Built rounds ns (t .conns)
-  forest = built rounds ns (t .conns) (tables-accepted nws rws cws t accepted .conns) (omega (arith, enough .long))
+  abbrev cs : List Connection
+  cs = t .conns
 
-  pub path-rust : rustPath rounds ns (t .conns) l r ≡ onlyIf (joined (t .conns) l r) (some (map asWalked (path (t .conns) l r)))
+  sound : AcceptedTables t
+  sound = tables-accepted nws rws cws t accepted
+
+  forest : Built rounds ns cs
+  forest = built rounds ns cs (sound .conns) (omega (arith, enough .long))
+
+  short : 2 * length cs < rounds
+  short = omega (arith, enough .long)
+
+  -- the path, as it is walked
+  pub path-rust : rustPath rounds ns cs l r ≡ onlyIf (joined cs l r) (some (map asWalked (path cs l r)))
   unfolding rustPath
   path-rust =
-      let a = tables-accepted nws rws cws t accepted in
-      let b = forest in
-      by-joined t l r (map asWalked (path (t .conns) l r))
-      (λ same. let w = optimized (a .conns) (b .holds) rounds (omega (arith, enough .long)) l r l-in r-in same in on _ (b .is) ∙ on _ (w .is) ∙ ap some (w .same))
-      (λ apart. on _ (b .is) ∙ off _ (no-optimized (a .conns) (b .holds) rounds (omega (arith, enough .long)) l r l-in r-in apart))
+      by-joined t l r (map asWalked (path cs l r))
+      (λ same. let w = optimized (sound .conns) (forest .holds) rounds short l r l-in r-in same in on _ (forest .is) ∙ on _ (w .is) ∙ ap some (w .same))
+      (λ apart. on _ (forest .is) ∙ off _ (no-optimized (sound .conns) (forest .holds) rounds short l r l-in r-in apart))
 
-  -- the memo changes nothing
-  pub memo-rust : rustPath rounds ns (t .conns) l r ≡ rustPathUnoptimized rounds ns (t .conns) l r
+  -- without the memo it is the same one
+  unoptimized-rust : rustPathUnoptimized rounds ns cs l r ≡ onlyIf (joined cs l r) (some (map asWalked (path cs l r)))
   unfolding rustPathUnoptimized
-  memo-rust =
-      let a = tables-accepted nws rws cws t accepted in
-      let b = forest in
-      path-rust ∙ sym (by-joined t l r (map asWalked (path (t .conns) l r))
-      (λ same. let w = unoptimized (a .conns) (b .holds) rounds (omega (arith, enough .long)) l r l-in r-in same in on _ (b .is) ∙ on _ (w .is) ∙ ap some (w .same))
-      (λ apart. on _ (b .is) ∙ off _ (no-unoptimized (a .conns) (b .holds) rounds (omega (arith, enough .long)) l r l-in r-in apart)))
+  unoptimized-rust =
+      by-joined t l r (map asWalked (path cs l r))
+      (λ same. let w = unoptimized (sound .conns) (forest .holds) rounds short l r l-in r-in same in on _ (forest .is) ∙ on _ (w .is) ∙ ap some (w .same))
+      (λ apart. on _ (forest .is) ∙ off _ (no-unoptimized (sound .conns) (forest .holds) rounds short l r l-in r-in apart))
 
-  pub distance-rust : rustDistance nesting rounds ns (t .conns) l r ≡ onlyIf (joined (t .conns) l r) (some (dist ns (t .conns) l r))
+  pub memo-rust : rustPath rounds ns cs l r ≡ rustPathUnoptimized rounds ns cs l r
+  memo-rust = path-rust ∙ sym unoptimized-rust
+
+  -- the distance
+  pub distance-rust : rustDistance nesting rounds ns cs l r ≡ onlyIf (joined cs l r) (some (dist ns cs l r))
   unfolding rustDistance
   distance-rust =
-      let a = tables-accepted nws rws cws t accepted in
-      let b = forest in
-      by-joined t l r (dist ns (t .conns) l r)
-      (λ same. let d = distance-is (a .nodes) (a .conns) (b .holds) nesting rounds (enough .nested) (enough .long) l r l-in r-in same in on _ (b .is) ∙ on _ (d .is))
-      (λ apart. on _ (b .is) ∙ off _ (no-distance (a .conns) (b .holds) nesting rounds _ l r l-in r-in apart))
+      by-joined t l r (dist ns cs l r)
+      (λ same.
+      let d = distance-is (sound .nodes) (sound .conns) (forest .holds) nesting rounds (enough .nested) (enough .long) l r l-in r-in same in
+      on _ (forest .is) ∙ on _ (d .is))
+      (λ apart. on _ (forest .is) ∙ off _ (no-distance (sound .conns) (forest .holds) nesting rounds _ l r l-in r-in apart))
 
-  pub flat-rust : rustFlat nesting rounds ns (t .conns) l r ≡ onlyIf (joined (t .conns) l r) (some (flatProof ns (t .conns) l r))
+  -- the flat proof
+  pub flat-rust : rustFlat nesting rounds ns cs l r ≡ onlyIf (joined cs l r) (some (flatProof ns cs l r))
   unfolding rustFlat
   flat-rust =
-      let a = tables-accepted nws rws cws t accepted in
-      let b = forest in
-      by-joined t l r (flatProof ns (t .conns) l r)
-      (λ same. let f = flat-is (a .nodes) (a .conns) (b .holds) rounds (omega (arith, enough .long)) (enough .wide) nesting (enough .nested) l r l-in r-in same in
-      on _ (b .is) ∙ on _ (f .is) ∙ on _ (f .flat) ∙ read-back (flatProof ns (t .conns) l r))
-      (λ apart. on _ (b .is) ∙ off _ (no-flat (a .nodes) (a .conns) (b .holds) rounds (omega (arith, enough .long)) (enough .wide) nesting l r l-in r-in apart))
+      by-joined t l r (flatProof ns cs l r)
+      (λ same.
+      let f = flat-is (sound .nodes) (sound .conns) (forest .holds) rounds short (enough .wide) nesting (enough .nested) l r l-in r-in same in
+      on _ (forest .is) ∙ on _ (f .is) ∙ on _ (f .flat) ∙ read-back (flatProof ns cs l r))
+      (λ apart. on _ (forest .is) ∙ off _ (no-flat (sound .nodes) (sound .conns) (forest .holds) rounds short (enough .wide) nesting l r l-in r-in apart))

@@ -22,6 +22,10 @@ pub record Found : Type 0 where
   pub memo : List Climbed
   pub cost : ℕ
 
+-- how the distance of two nodes is asked for
+abbrev pub Between : Type 0
+Between = List Climbed → ℕ → ℕ → Option Found
+
 -- where `calculate_shortest_explanations` starts: each of the first nodes is where its climb has come to, at no cost
 abbrev pub unclimbed : ℕ → List Climbed
 unclimbed n = counted (λ i. record { node = i; cost = 0 }) n
@@ -36,21 +40,21 @@ treeDepth (suc rounds) e node = do
     some (depth + 1)
 
 -- fn congruence_distance: `zip` of the children, the costs added up
-unfoldable pub childDistances : (List Climbed → ℕ → ℕ → Option Found) → List Climbed → List ℕ → List ℕ → ℕ → Option Found
+unfoldable pub childDistances : Between → List Climbed → List ℕ → List ℕ → ℕ → Option Found
 childDistances between memo [] rights cost = some (record { memo = memo; cost = cost })
 childDistances between memo (left ∷ lefts) [] cost = some (record { memo = memo; cost = cost })
 childDistances between memo (left ∷ lefts) (right ∷ rights) cost = do
   f ← between memo left right
   childDistances between (f .memo) lefts rights (cost + f .cost)
 
-abbrev pub congruenceDistance : (List Climbed → ℕ → ℕ → Option Found) → List Node → List Climbed → ℕ → ℕ → Option Found
+abbrev pub congruenceDistance : Between → List Node → List Climbed → ℕ → ℕ → Option Found
 congruenceDistance between ns memo current next = do
   c ← getElem? ns current
   n ← getElem? ns next
   childDistances between memo (c .kids) (n .kids) 0
 
 -- fn connection_distance
-abbrev pub connectionDistance : (List Climbed → ℕ → ℕ → Option Found) → List Node → List Climbed → Justification → ℕ → ℕ → Option Found
+abbrev pub connectionDistance : Between → List Node → List Climbed → Justification → ℕ → ℕ → Option Found
 connectionDistance between ns memo (rule n) current next = some (record { memo = memo; cost = 1 })
 connectionDistance between ns memo congruence current next = congruenceDistance between ns memo current next
 
@@ -67,7 +71,7 @@ past depths node (some ancestor) = do
   some (leb a b)
 
 -- fn calculate_parent_distance
-unfoldable pub calculateParentDistance : (List Climbed → ℕ → ℕ → Option Found) → (ℕ → Option ℕ) → List Node → Explain → ℕ → List Climbed → ℕ → Option ℕ → Option Found
+unfoldable pub calculateParentDistance : Between → (ℕ → Option ℕ) → List Node → Explain → ℕ → List Climbed → ℕ → Option ℕ → Option Found
 unfolding childDistances
 calculateParentDistance between depths ns e zero memo enode ancestor = none
 calculateParentDistance between depths ns e (suc rounds) memo enode ancestor = do

@@ -1,5 +1,6 @@
 -- The Rust on values: the forest of src/explain.rs (egg 0.11.0). Each definition has the name of its type or function there.
--- From the model come the tables alone: nodes, and connections with their justification. A `Vec` is a list, a `HashMap` a list of its entries, the newest first.
+-- From the model come the tables alone: nodes, and connections with their justification. A `Vec` is a list, a `HashMap` a list of its entries, the
+-- newest first.
 use Prim.Native.Nat.{ℕ, zero, suc}
 use mathlib.Core.Bool.{Bool, true, false, not, cond, _&&_}
 use mathlib.Core.List.{List, [], _∷_, _++_}

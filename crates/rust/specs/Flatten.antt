@@ -1,11 +1,11 @@
 -- The Rust on values: how src/explain.rs flattens a tree of proofs. Each definition has the name of its type or function there.
 -- antt has no trees over lists of trees: a `Vec` of terms is a row, first child and next sibling, as in the model.
 use Prim.Native.Nat.{ℕ, zero, suc}
-use mathlib.Core.Bool.{Bool, true, false, not, cond, _&&_, _||_}
+use mathlib.Core.Bool.{Bool, true, false, cond, _||_}
 use mathlib.Core.List.{List, [], _∷_}
 use mathlib.Core.Option.{Option, none, some}
 use lib.Dec.{eqb}
-use Rattle.rust.specs.Panics.{_>>=_, _>>_, assert}
+use Rattle.rust.specs.Panics.{_>>=_, _>>_}
 
 -- type TreeExplanation, a `Vec` of `TreeTerm`s (operator, backward_rule, forward_rule, child_proofs), and child_proofs, a `Vec` of these
 mutual

@@ -1,17 +1,16 @@
 -- The Rust on values: how src/explain.rs makes the tree of proofs between two nodes. Each definition has the name of its function there.
 -- What its caches hold is what was made before for the same nodes, and is made anew here.
 use Prim.Native.Nat.{ℕ, zero, suc}
-use mathlib.Core.Bool.{Bool, true, false, cond, _&&_}
+use mathlib.Core.Bool.{Bool, true, false, _&&_}
 use mathlib.Core.List.{List, [], _∷_}
 use mathlib.Core.Option.{Option, none, some}
 use lib.Dec.{eqb}
 use lib.ListN.{length, getElem?}
-use Rattle.model.specs.declared.Connection.{Connection as TableConnection}
 use Rattle.model.specs.Node.{Node}
 use Rattle.rust.specs.Panics.{_>>=_, _>>_, assert}
-use Rattle.rust.specs.Explain.{Justification, rule, congruence, Connection, Explain, explainOf}
-use Rattle.rust.specs.Paths.{Path, getPath, walked}
-use Rattle.rust.specs.Flatten.{Trees, noTrees, treeTerm, Proofs, noProofs, proofOf, Flats, noFlats, flattenProof}
+use Rattle.rust.specs.Explain.{Justification, rule, congruence, Connection, Explain}
+use Rattle.rust.specs.Paths.{getPath, walked}
+use Rattle.rust.specs.Flatten.{Trees, noTrees, treeTerm, Proofs, noProofs, proofOf}
 
 -- struct TreeTerm
 pub record TreeTerm : Type 0 where
