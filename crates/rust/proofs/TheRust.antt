@@ -18,7 +18,6 @@ use Rattle.model.specs.Tables.{onlyIf, judgeTables}
 use Rattle.paths.proofs.Joined.{joined-root, apart-root}
 use Rattle.flat.specs.Accepted.{AcceptedTables}
 use Rattle.flat.proofs.Tables.{tables-accepted}
-use Rattle.rust.specs.Panics.{_>>=_}
 use Rattle.rust.specs.Read.{asWalked, rustPath, rustPathUnoptimized, rustDistance, rustFlat}
 use Rattle.rust.proofs.Vectors.{on, off}
 use Rattle.rust.proofs.Built.{Built, built}
