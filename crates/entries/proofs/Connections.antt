@@ -13,7 +13,7 @@ use Rattle.model.specs.Connect.{addConnection, misplaced, supported}
 use Rattle.model.specs.Forest.{cur, nxt}
 use Rattle.model.specs.Judged.{Judged, bad, good}
 use Rattle.model.specs.Node.{Node}
-use Rattle.model.specs.Tables.{connectionEntry, connectionOf, entries, whyOf}
+use Rattle.model.specs.Tables.{connectionEntry, connectionOf, entries, whyOf, connectionWords, nextAt, whyAt, byRuleAt, forwardAt}
 use Rattle.model.specs.declared.Connection.{Connection}
 use Rattle.model.specs.declared.Direction.{Direction}
 use Rattle.model.specs.declared.Direction.the-variants.{Forward}
@@ -35,17 +35,17 @@ abbrev made : ℕ → ℕ → Justification → Connection
 made a b w = record { current = record { 0 = a }; next = record { 0 = b }; why = w }
 
 module _ (ws : List ℕ) (i : ℕ) {a b : ℕ} where
-  pub connection-cong : a ≡ getD ws (i * 5 + 0) 0 → b ≡ getD ws (i * 5 + 1) 0 → getD ws (i * 5 + 2) 0 ≡ 0 →
+  pub connection-cong : a ≡ getD ws (i * connectionWords + 0) 0 → b ≡ getD ws (i * connectionWords + nextAt) 0 → getD ws (i * connectionWords + whyAt) 0 ≡ 0 →
       made a b Congruence ≡ connectionIn ws i
   unfolding connectionIn
   connection-cong p q k = rw (k, p, q, add-zero) refl
 
-  pub connection-rule : a ≡ getD ws (i * 5 + 0) 0 → b ≡ getD ws (i * 5 + 1) 0 → (getD ws (i * 5 + 2) 0 ≡ 0 → ⊥) → {r : ℕ} →
-      r ≡ getD ws (i * 5 + 3) 0 → {d : Direction} → d ≡ directionIn (getD ws (i * 5 + 4) 0) → made a b
+  pub connection-rule : a ≡ getD ws (i * connectionWords + 0) 0 → b ≡ getD ws (i * connectionWords + nextAt) 0 → (getD ws (i * connectionWords + whyAt) 0 ≡ 0 → ⊥) → {r : ℕ} →
+      r ≡ getD ws (i * connectionWords + byRuleAt) 0 → {d : Direction} → d ≡ directionIn (getD ws (i * connectionWords + forwardAt) 0) → made a b
       (byRule (record { 0 = r }) d) ≡ connectionIn ws i
   unfolding connectionIn
   connection-rule p q k e g =
-      rw (is-rule (getD ws (i * 5 + 2) 0) (getD ws (i * 5 + 3) 0) (getD ws (i * 5 + 4) 0) k, p, q, e, g, add-zero) refl
+      rw (is-rule (getD ws (i * connectionWords + whyAt) 0) (getD ws (i * connectionWords + byRuleAt) 0) (getD ws (i * connectionWords + forwardAt) 0) k, p, q, e, g, add-zero) refl
 
 pub length-oldest : (k : ℕ) (ws : List ℕ) → length (oldest k ws) ≡ k
 unfolding oldest
@@ -68,18 +68,18 @@ entry-made a b k r f none q p = let z : _≡_ {A = ℕ} 0 1 = cc in absurd (omeg
 entry-made a b k r f (some w) q p = rw (← (present-why k r f q)) cc
 
 pub record Entry (ws : List ℕ) (i : ℕ) (c : Connection) : Type 0 where
-  pub room : i * 5 + 5 ≤ length ws
+  pub room : i * connectionWords + connectionWords ≤ length ws
   pub is : c ≡ connectionIn ws i
 
 pub entry-some : (ws : List ℕ) (i : ℕ) {c : Connection} → connectionEntry ws i ≡ some c → Entry ws i c
 unfolding connectionEntry connectionIn
 entry-some ws i p =
-    let a = getD ws (i * 5) 0 in
-    let b = getD ws (i * 5 + 1) 0 in
-    let k = getD ws (i * 5 + 2) 0 in
-    let r = getD ws (i * 5 + 3) 0 in
-    let f = getD ws (i * 5 + 4) 0 in
-    let w = whole (leb (i * 5 + 5) (length ws)) (connectionOf a b (whyOf k r f)) p in
+    let a = getD ws (i * connectionWords) 0 in
+    let b = getD ws (i * connectionWords + nextAt) 0 in
+    let k = getD ws (i * connectionWords + whyAt) 0 in
+    let r = getD ws (i * connectionWords + byRuleAt) 0 in
+    let f = getD ws (i * connectionWords + forwardAt) 0 in
+    let w = whole (leb (i * connectionWords + connectionWords) (length ws)) (connectionOf a b (whyOf k r f)) p in
     record { room = leb-true _ _ (w .0); is = entry-made a b k r f (whyOf k r f) refl (w .1) }
 
 -- when an entry is there
@@ -88,16 +88,16 @@ present-made a b none = refl
 present-made a b (some w) = refl
 
 module _ (ws : List ℕ) (i : ℕ) where
-  pub present-short : length ws < i * 5 + 5 → present (connectionEntry ws i) ≡ false
+  pub present-short : length ws < i * connectionWords + connectionWords → present (connectionEntry ws i) ≡ false
   unfolding connectionEntry
   present-short h = rw (lt-leb _ _ h) refl
 
-  pub present-long : i * 5 + 5 ≤ length ws → {k r f : ℕ} → k ≡ getD ws (i * 5 + 2) 0 → r ≡ getD ws (i * 5 + 3) 0 →
-      f ≡ getD ws (i * 5 + 4) 0 →
+  pub present-long : i * connectionWords + connectionWords ≤ length ws → {k r f : ℕ} → k ≡ getD ws (i * connectionWords + whyAt) 0 → r ≡ getD ws (i * connectionWords + byRuleAt) 0 →
+      f ≡ getD ws (i * connectionWords + forwardAt) 0 →
       present (connectionEntry ws i) ≡ present (whyOf k r f)
   unfolding connectionEntry
   present-long h p q s = rw (le-leb _ _ h, p, q, s)
-      (present-made (getD ws (i * 5) 0) (getD ws (i * 5 + 1) 0) (whyOf (getD ws (i * 5 + 2) 0) (getD ws (i * 5 + 3) 0) (getD ws (i * 5 + 4) 0)))
+      (present-made (getD ws (i * connectionWords) 0) (getD ws (i * connectionWords + nextAt) 0) (whyOf (getD ws (i * connectionWords + whyAt) 0) (getD ws (i * connectionWords + byRuleAt) 0) (getD ws (i * connectionWords + forwardAt) 0)))
 
 pub fields-cong : (k r f : ℕ) → k ≡ 0 → r ≡ 0 → present (whyOf k r f) ≡ eqb f 0
 fields-cong k r zero p q = rw (p, q) refl
@@ -118,7 +118,7 @@ fields-none (suc zero) r f p q = absurd (q refl)
 fields-none (suc (suc k)) r f p q = refl
 
 pub record There (ws : List ℕ) (i : ℕ) : Type 0 where
-  pub room : i * 5 + 5 ≤ length ws
+  pub room : i * connectionWords + connectionWords ≤ length ws
   pub is : connectionEntry ws i ≡ some (connectionIn ws i)
 
 pub entry-there : (ws : List ℕ) (i : ℕ) → present (connectionEntry ws i) ≡ true → There ws i
@@ -132,7 +132,7 @@ entry-there ws i p = go (connectionEntry ws i) refl
 pub record Connections (ns : List Node) (ws : List ℕ) (k : ℕ) (cs : List Connection) : Type 0 where
   pub is : cs ≡ oldest k ws
   pub accepted : Accepted ns (oldest k ws)
-  pub room : k * 5 ≤ length ws
+  pub room : k * connectionWords ≤ length ws
 
 some-same : {A : Type 0} {a b : A} → some a ≡ some b → a ≡ b
 some-same p = cc

@@ -12,7 +12,7 @@ use Rattle.model.specs.Forest.{cur, isTop, joined, nxt, parentOf, root, top}
 use Rattle.model.specs.Judged.{judgementOf}
 use Rattle.model.specs.Limits.{childLimit, nodeLimit}
 use Rattle.model.specs.Node.{Node, addNode, allBelow}
-use Rattle.model.specs.Tables.{nodeEntry}
+use Rattle.model.specs.Tables.{nodeEntry, nodeWords}
 use Rattle.model.specs.declared.Connection.{Connection}
 use Rattle.model.specs.declared.Direction.{Direction}
 use Rattle.model.specs.declared.Judgement.the-variants.{Faulty, Taken}
@@ -111,15 +111,15 @@ absent ns cs (some c) p = absurd (false≢true (sym p))
 
 -- Judging a node, test by test.
 module _ (ns : List Node) (ws : List ℕ) (n : ℕ) where
-  pub node-short : length ws < n * 10 + 10 → Faulty 2 ≡ judgementOf (addNode ns (nodeEntry ws n))
+  pub node-short : length ws < n * nodeWords + nodeWords → Faulty 2 ≡ judgementOf (addNode ns (nodeEntry ws n))
   unfolding addNode nodeEntry
   node-short h = rw (lt-leb _ _ h) refl
 
-  pub node-wide : n * 10 + 10 ≤ length ws → childLimit < countIn ws n → Faulty 2 ≡ judgementOf (addNode ns (nodeEntry ws n))
+  pub node-wide : n * nodeWords + nodeWords ≤ length ws → childLimit < countIn ws n → Faulty 2 ≡ judgementOf (addNode ns (nodeEntry ws n))
   unfolding addNode nodeEntry
   node-wide r h = rw (le-leb _ _ r, lt-leb _ _ h) refl
 
-  module _ (r : n * 10 + 10 ≤ length ws) (k : countIn ws n ≤ childLimit) where
+  module _ (r : n * nodeWords + nodeWords ≤ length ws) (k : countIn ws n ≤ childLimit) where
     pub node-many : nodeLimit ≤ length ns → Faulty 3 ≡ judgementOf (addNode ns (nodeEntry ws n))
     unfolding addNode nodeEntry
     node-many h = rw (le-leb _ _ r, le-leb _ _ k, le-leb _ _ h) refl

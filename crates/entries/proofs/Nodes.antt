@@ -14,7 +14,7 @@ use lib.Seq.{getD-at}
 use Rattle.model.specs.Judged.{Judged, bad, good, judgementOf}
 use Rattle.model.specs.Limits.{childLimit, nodeLimit}
 use Rattle.model.specs.Node.{Node, addNode, allBelow, kidsOf, noNode, nodeOf, opOf}
-use Rattle.model.specs.Tables.{entries, nodeAt, nodeEntry, nodeTable, wordsFrom}
+use Rattle.model.specs.Tables.{entries, nodeAt, nodeEntry, nodeTable, wordsFrom, nodeWords, countAt, childrenAt}
 use Rattle.model.specs.declared.Judgement.the-variants.{Faulty, Taken}
 use Rattle.laws.proofs.Judging.{faulty-bad, first-bad, one-more, taken, taken-good, whole}
 use Rattle.entries.specs.Nodes.{Known, NodesStand, NodesWhole, childrenIn, countIn, firstNodes, nodesTo}
@@ -39,7 +39,7 @@ pub children-in : (k : ℕ) (ws : List ℕ) (n : ℕ) → n < k → kidsOf (firs
 unfolding nodeAt
 children-in k ws n h = ap (λ (x : Node). x .kids) (node-in k ws n h)
 
-pub operator-in : (k : ℕ) (ws : List ℕ) (n : ℕ) → n < k → opOf (firstNodes k ws) n ≡ getD ws (n * 10) 0
+pub operator-in : (k : ℕ) (ws : List ℕ) (n : ℕ) → n < k → opOf (firstNodes k ws) n ≡ getD ws (n * nodeWords) 0
 unfolding nodeAt
 operator-in k ws n h = ap (λ (x : Node). x .op) (node-in k ws n h)
 
@@ -85,15 +85,15 @@ node-added ns (some x) new p =
     record { node = x; entry = refl; few = leb-false _ _ (a .0); lower = not-false _ (b .0); is = cc }
 
 record NodeEntry (ws : List ℕ) (i : ℕ) (x : Node) : Type 0 where
-  room : i * 10 + 10 ≤ length ws
+  room : i * nodeWords + nodeWords ≤ length ws
   narrow : countIn ws i ≤ childLimit
   is : nodeAt ws i ≡ x
 
 node-entry : (ws : List ℕ) (i : ℕ) (x : Node) → nodeEntry ws i ≡ some x → NodeEntry ws i x
 unfolding nodeEntry
 node-entry ws i x p =
-    let w = whole (leb (i * 10 + 10) (length ws) && leb (getD ws (i * 10 + 1) 0) childLimit) (some (nodeAt ws i)) p in
-    let b = and-eq-true-iff (leb (i * 10 + 10) (length ws)) (leb (getD ws (i * 10 + 1) 0) childLimit) .0 (w .0) in
+    let w = whole (leb (i * nodeWords + nodeWords) (length ws) && leb (getD ws (i * nodeWords + countAt) 0) childLimit) (some (nodeAt ws i)) p in
+    let b = and-eq-true-iff (leb (i * nodeWords + nodeWords) (length ws)) (leb (getD ws (i * nodeWords + countAt) 0) childLimit) .0 (w .0) in
     let q = w .1 in
     record { room = leb-true _ _ (b .0); narrow = leb-true _ _ (b .1); is = cc }
 
@@ -112,7 +112,7 @@ step-node ws k {ns} {new} s p =
         room = omega (arith, e .room);
         narrow = λ m h. elim (ℕ-discrete m k) [ yes q ↦ rw q (e .narrow) | no q ↦ s .stand .narrow m (omega arith) ];
         lower = λ m i h g. elim (ℕ-discrete m k) [
-          | yes q ↦ rw q (below-at ws k (k * 10 + 2) (countIn ws k) low i (rw q at g))
+          | yes q ↦ rw q (below-at ws k (k * nodeWords + childrenAt) (countIn ws k) low i (rw q at g))
           | no q ↦ s .stand .lower m i (omega arith) g
         ];
       };
@@ -140,11 +140,11 @@ nodes ws (suc k) ns p = go (nodesTo ws k) refl (nodes ws k)
         absurd (omega arith)
 
 -- the loop that judges a table of nodes
-pub node-bad : (ws : List ℕ) (k n : ℕ) → nodesTo ws k ≡ good (firstNodes k ws) → k * 10 < length ws →
+pub node-bad : (ws : List ℕ) (k n : ℕ) → nodesTo ws k ≡ good (firstNodes k ws) → k * nodeWords < length ws →
     Faulty n ≡ judgementOf (addNode (firstNodes k ws) (nodeEntry ws k)) → nodeTable ws ≡ bad n
 unfolding nodeTable
 node-bad ws k n s h p =
-    first-bad addNode (nodeEntry ws) [] (suc k) ((length ws + 9) / 10) n
+    first-bad addNode (nodeEntry ws) [] (suc k) ((length ws + (nodeWords - 1)) / nodeWords) n
     (le-div-iff-mul-le (omega arith) .1 (omega arith)) (one-more addNode (nodeEntry ws) [] k s ∙ faulty-bad _ n p)
 
 pub node-more : (ws : List ℕ) (k : ℕ) → nodesTo ws k ≡ good (firstNodes k ws) →
@@ -154,10 +154,10 @@ node-more ws k s p =
     let q = one-more addNode (nodeEntry ws) [] k s ∙ g .is in
     q ∙ ap good (nodes ws (suc k) (g .what) q .is)
 
-pub node-done : (ws : List ℕ) (k : ℕ) → nodesTo ws k ≡ good (firstNodes k ws) → length ws ≤ k * 10 → nodeTable ws ≡ good (firstNodes k ws)
+pub node-done : (ws : List ℕ) (k : ℕ) → nodesTo ws k ≡ good (firstNodes k ws) → length ws ≤ k * nodeWords → nodeTable ws ≡ good (firstNodes k ws)
 unfolding nodeTable
 node-done ws k s h =
-    let e : (length ws + 9) / 10 ≡ k = div-eq-of-lt-le 10 (omega (arith, nodes ws k (firstNodes k ws) s .stand .room)) (omega arith) in
+    let e : (length ws + (nodeWords - 1)) / nodeWords ≡ k = div-eq-of-lt-le nodeWords (omega (arith, nodes ws k (firstNodes k ws) s .stand .room)) (omega arith) in
     rw e s
 
 pub nodes-none : (ws : List ℕ) → nodesTo ws 0 ≡ good (firstNodes 0 ws)
@@ -168,8 +168,8 @@ pub nodes-whole : (ws : List ℕ) → Taken ≡ judgementOf (nodeTable ws) → N
 unfolding nodeTable
 nodes-whole ws p =
     let g = taken-good (nodeTable ws) p in
-    let t = nodes ws ((length ws + 9) / 10) (g .what) (g .is) in
-    let e : (length ws + 9) / 10 ≡ length ws / 10 = omega (arith, t .stand .room) in
+    let t = nodes ws ((length ws + (nodeWords - 1)) / nodeWords) (g .what) (g .is) in
+    let e : (length ws + (nodeWords - 1)) / nodeWords ≡ length ws / nodeWords = omega (arith, t .stand .room) in
     record { stand = subst (NodesStand ws) e (t .stand); is = g .is ∙ ap good (t .is ∙ ap (λ (k : ℕ). firstNodes k ws) e) }
 
 -- one entry more: a node

@@ -4,6 +4,7 @@ use mathlib.Core.Path.{_≡_, sym, ap, _∙_, subst₂}
 use mathlib.Core.List.{List}
 use native.Mathlib.Omega.{arith}
 use native.Mathlib.Decide.{ℕ-discrete}
+use Rattle.model.specs.Tables.{nodeWords, childrenAt}
 use Rattle.model.specs.declared.Connection.{Connection}
 use Rattle.model.specs.declared.Justification.the-variants.{Congruence}
 use Rattle.model.specs.Node.{Node}
@@ -43,14 +44,14 @@ module _ {nodes : List ℕ} {n : ℕ} {conns : List ℕ} {count : ℕ} (s : Supp
       let p : Paired cs xs ys =
       subst₂ (Paired cs) (children-in n nodes (cur c) current-here) (children-in n nodes (nxt c) next-here) (kin sound-here w) in
       let e : countIn nodes (cur c) ≡ countIn nodes (nxt c) =
-      sym (length-words nodes (cur c * 10 + 2) (countIn nodes (cur c))) ∙ paired-length cs xs ys p
-      ∙ length-words nodes (nxt c * 10 + 2) (countIn nodes (nxt c)) in
+      sym (length-words nodes (cur c * nodeWords + childrenAt) (countIn nodes (cur c))) ∙ paired-length cs xs ys p
+      ∙ length-words nodes (nxt c * nodeWords + childrenAt) (countIn nodes (nxt c)) in
       record {
         left-known = known (cur c) (s .table) current-here;
         right-known = known (nxt c) (s .table) next-here;
         even = e;
         joins = λ i q.
-            ap (root cs) (sym (words-at nodes (cur c * 10 + 2) (countIn nodes (cur c)) i q))
+            ap (root cs) (sym (words-at nodes (cur c * nodeWords + childrenAt) (countIn nodes (cur c)) i q))
             ∙ paired-at cs xs ys p i
-            ∙ ap (root cs) (words-at nodes (nxt c * 10 + 2) (countIn nodes (nxt c)) i (omega arith));
+            ∙ ap (root cs) (words-at nodes (nxt c * nodeWords + childrenAt) (countIn nodes (nxt c)) i (omega arith));
       }

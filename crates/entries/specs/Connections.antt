@@ -9,7 +9,7 @@ use Rattle.model.specs.Connect.{addConnection, pairsJoined}
 use Rattle.model.specs.Forest.{joined, root}
 use Rattle.model.specs.Judged.{Judged}
 use Rattle.model.specs.Node.{Node}
-use Rattle.model.specs.Tables.{connectionEntry, entries}
+use Rattle.model.specs.Tables.{connectionEntry, entries, nodeWords, connectionWords, nextAt, whyAt, byRuleAt, forwardAt}
 use Rattle.model.specs.Term.{sameOp}
 use Rattle.model.specs.declared.Connection.{Connection}
 use Rattle.model.specs.declared.Direction.{Direction}
@@ -37,9 +37,9 @@ whyIn (suc k) r f = byRule (record { 0 = r }) (directionIn f)
 unfoldable pub connectionIn : List ℕ → ℕ → Connection
 connectionIn ws i =
     record {
-      current = record { 0 = getD ws (i * 5) 0 };
-      next = record { 0 = getD ws (i * 5 + 1) 0 };
-      why = whyIn (getD ws (i * 5 + 2) 0) (getD ws (i * 5 + 3) 0) (getD ws (i * 5 + 4) 0);
+      current = record { 0 = getD ws (i * connectionWords) 0 };
+      next = record { 0 = getD ws (i * connectionWords + nextAt) 0 };
+      why = whyIn (getD ws (i * connectionWords + whyAt) 0) (getD ws (i * connectionWords + byRuleAt) 0) (getD ws (i * connectionWords + forwardAt) 0);
     }
 
 -- the k oldest connections of a table, newest first
@@ -60,7 +60,7 @@ connectionsTo ns ws k = entries (addConnection ns) (connectionEntry ws) [] k
 -- whether two nodes of a table support a congruence
 abbrev pub supportIn : List ℕ → List Connection → ℕ → ℕ → Bool
 supportIn ws cs a b =
-    sameOp (getD ws (a * 10) 0) (getD ws (b * 10) 0) && pairsJoined (joined cs) (childrenIn ws a) (childrenIn ws b)
+    sameOp (getD ws (a * nodeWords) 0) (getD ws (b * nodeWords) 0) && pairsJoined (joined cs) (childrenIn ws a) (childrenIn ws b)
 
 -- two nodes whose children the oldest connections, up to a bound, join pair by pair
 pub record Twins (nodes conns : List ℕ) (bound a b : ℕ) : Type 0 where

@@ -13,7 +13,7 @@ use Rattle.model.specs.Judged.{Judged, good, bad, judgementOf}
 use Rattle.model.specs.Rule.{Rule}
 use Rattle.model.specs.Node.{Node}
 use Rattle.model.specs.Query.{Tables}
-use Rattle.model.specs.Tables.{nodeTable, ruleTable, connectionTable, withNodes, withConnections, judgeTables, measureBy, verdictBy}
+use Rattle.model.specs.Tables.{nodeTable, ruleTable, connectionTable, withNodes, withConnections, judgeTables, measureBy, verdictBy, nodeWords, ruleWords, connectionWords}
 use Rattle.entries.specs.Nodes.{firstNodes}
 use Rattle.entries.specs.Connections.{oldest}
 use Rattle.forest.specs.Parents.{parentWords}
@@ -46,11 +46,11 @@ last ns rs (good cs) = record { judged = refl; parents = refl }
 last ns rs (bad n) = record { judged = refl; parents = refl }
 
 pub connections-decide : (nws rws cws : List ℕ) → NodesWhole nws → Taken ≡ judgementOf (ruleTable rws)
-    → Decides (connectionTable (firstNodes (length nws / 10) nws) cws) (judgeTables nws rws cws)
+    → Decides (connectionTable (firstNodes (length nws / nodeWords) nws) cws) (judgeTables nws rws cws)
 unfolding judgeTables
 connections-decide nws rws cws a b =
     let g = taken-good (ruleTable rws) b in
-    let ns = firstNodes (length nws / 10) nws in
+    let ns = firstNodes (length nws / nodeWords) nws in
     rw (a .is, g .is) (last ns (g .what) (connectionTable ns cws))
 
 -- the parts of accepted tables
@@ -77,20 +77,20 @@ parts nws rws cws t e = parts-by nws rws cws t (nodeTable nws) refl (ruleTable r
 
 -- what the checker and climbing want of them
 pub record Whole (nws rws cws parents : List ℕ) (t : Tables) : Type 0 where
-  pub rules : rulesIn rws (length rws / 387) ≡ good (t .rules)
+  pub rules : rulesIn rws (length rws / ruleWords) ≡ good (t .rules)
   pub nodes-whole : NodesWhole nws
-  pub connections-whole : ConnectionsWhole nws (length nws / 10) cws parents
-  pub nodes : t .nodes ≡ firstNodes (length nws / 10) nws
-  pub conns : t .conns ≡ oldest (length cws / 5) cws
+  pub connections-whole : ConnectionsWhole nws (length nws / nodeWords) cws parents
+  pub nodes : t .nodes ≡ firstNodes (length nws / nodeWords) nws
+  pub conns : t .conns ≡ oldest (length cws / connectionWords) cws
 
 pub whole : (nws rws cws ps : List ℕ) (t : Tables) → judgeTables nws rws cws ≡ good t → ps ≡ parentsBy (judgeTables nws rws cws) → Whole nws rws cws ps t
 whole nws rws cws ps t e q =
     let p = parts nws rws cws t e in
     let a = nodes-whole nws (sym (ap judgementOf (p .nodes))) in
-    let ns : t .nodes ≡ firstNodes (length nws / 10) nws = (let x = a .is in let y = p .nodes in cc) in
-    let c : connectionTable (firstNodes (length nws / 10) nws) cws ≡ good (t .conns) = rw ns at (p .conns) in
+    let ns : t .nodes ≡ firstNodes (length nws / nodeWords) nws = (let x = a .is in let y = p .nodes in cc) in
+    let c : connectionTable (firstNodes (length nws / nodeWords) nws) cws ≡ good (t .conns) = rw ns at (p .conns) in
     let b =
-    connections-whole nws (length nws / 10) cws ps (a .stand) (sym (ap judgementOf c))
+    connections-whole nws (length nws / nodeWords) cws ps (a .stand) (sym (ap judgementOf c))
     (q ∙ (ap parentsBy e ∙ sym (ap parentWords c))) in
     record {
       rules = table-accepted rws (t .rules) (p .rules);

@@ -8,6 +8,7 @@ use Rattle.model.specs.declared.Measured.{Measured}
 use Rattle.model.specs.Limits.{nodeLimit}
 use Rattle.model.specs.Judged.{Judged, good, bad}
 use Rattle.model.specs.Query.{Tables, measure}
+use Rattle.model.specs.Tables.{nodeWords, connectionWords}
 use Rattle.entries.specs.Nodes.{firstNodes}
 use Rattle.entries.specs.Connections.{oldest}
 use Rattle.forest.specs.Parents.{agesOf}
@@ -15,7 +16,7 @@ use Rattle.forest.specs.Parents.{agesOf}
 -- what is measured, over the words of accepted tables
 abbrev pub Measures : List ℕ → List ℕ → ℕ → ℕ → Measured → Type 0
 Measures nws cws l r m =
-    (t : Tables) → t .nodes ≡ firstNodes (length nws / 10) nws → t .conns ≡ oldest (length cws / 5) cws → m ≡ measure t l r
+    (t : Tables) → t .nodes ≡ firstNodes (length nws / nodeWords) nws → t .conns ≡ oldest (length cws / connectionWords) cws → m ≡ measure t l r
 
 -- what judging leaves in the lent table of parents: the accepted connections' ages, or nothing but zeros
 abbrev pub parentsBy : Judged Tables → List ℕ

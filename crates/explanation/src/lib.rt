@@ -15,7 +15,7 @@ ghost use lib.ListN.{length, replicate};
 ghost use Rattle.model.specs.Limits.{nodeLimit};
 ghost use Rattle.model.specs.Judged.{judgementOf};
 ghost use Rattle.model.specs.Query.{measureReport};
-ghost use Rattle.model.specs.Tables.{judgeTables, measureBy, verdictBy};
+ghost use Rattle.model.specs.Tables.{judgeTables, measureBy, verdictBy, nodeWords};
 ghost use Rattle.model.specs.Verdict.{reportOf};
 ghost use Rattle.entries.specs.Nodes.{NodesWhole};
 ghost use Rattle.forest.specs.Parents.{ConnectionsWhole};
@@ -60,7 +60,7 @@ fn measure(
     right: NodeNo,
 ) -> Measured
     requires { ⌜ NodesWhole (now nodes) ⌝ }
-    requires { ⌜ ConnectionsWhole (now nodes) (length (now nodes) / 10) (now connections) (now parents) ⌝ }
+    requires { ⌜ ConnectionsWhole (now nodes) (length (now nodes) / nodeWords) (now connections) (now parents) ⌝ }
     ensures { λ r. ⌜ Measures (now (nodes .entry)) (now (connections .entry)) (left .0) (right .0) r ⌝ }
 {
     let n = nodes.len() / NODE_WORDS;

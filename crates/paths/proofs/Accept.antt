@@ -1,5 +1,5 @@
 -- What accepted connections are: a forest, each on its support.
-use Prim.Native.Nat.{ℕ, zero, suc, _<_}
+use Prim.Native.Nat.{ℕ, zero, suc, _≤_, _<_}
 use mathlib.Core.Path.{_≡_, refl, sym, ap}
 use mathlib.Core.Bool.{Bool, true, false, not, _||_, false≢true, and-eq-true-iff}
 use mathlib.Core.List.{List, [], _∷_}
@@ -16,7 +16,7 @@ use Rattle.model.specs.Node.{Node, opOf, kidsOf}
 use Rattle.model.specs.Term.{sameOp}
 use Rattle.model.specs.Forest.{cur, nxt, root, joined, dist, Parent, top, below, parentOf, isTop}
 use Rattle.model.specs.Connect.{misplaced, pairsJoined, supported, addConnection}
-use Rattle.paths.specs.Hangs.{Hangs, Forest, Loose, Accepted, Sound, Paired}
+use Rattle.paths.specs.Hangs.{Hangs, Forest, Loose, Accepted, Sound, Within, Paired}
 use Rattle.paths.proofs.Laws.{forest-loose}
 use Rattle.paths.proofs.Joined.{joined-root, apart-root, dist-sym}
 
@@ -56,6 +56,12 @@ sound {ns} {cs} {c} p =
 pub accepted-forest : (ns : List Node) (cs : List Connection) → Accepted ns cs → Forest cs
 accepted-forest ns [] a = tt
 accepted-forest ns (c ∷ cs) a = (sound (a .0) .hangs, accepted-forest ns cs (a .1))
+
+-- their ends are nodes of the table
+pub accepted-within : (ns : List Node) (n : ℕ) (cs : List Connection) → length ns ≤ n → Accepted ns cs → Within n cs
+accepted-within ns n [] h a = tt
+accepted-within ns n (c ∷ cs) h a =
+    let s = sound (a .0) in (omega (arith, s .current-in), omega (arith, s .next-in), accepted-within ns n cs h (a .1))
 
 pub accepted-loose : (ns : List Node) (cs : List Connection) → Accepted ns cs → Loose cs
 accepted-loose ns cs a = forest-loose cs (accepted-forest ns cs a)

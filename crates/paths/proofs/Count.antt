@@ -45,29 +45,30 @@ counted : (cs : List Connection) (n : ℕ) → Forest cs → Within n cs → top
 counted [] n f w = omega (arith, tops-none n)
 counted (c ∷ cs) n f w = omega (arith, tops-fewer c cs n (w .0) (f .0 .free), counted cs n (f .1) (w .2))
 
--- a class's root is a node of the table, and has no parent
-record Root (cs : List Connection) (n m : ℕ) : Type 0 where
-  small : root cs m < n
-  free : parentOf cs (root cs m) ≡ top
-
-root-free : (cs : List Connection) (n m : ℕ) → Forest cs → Within n cs → m < n → Root cs n m
+-- a class's root has no parent, and is a node of the table
+pub root-free : (cs : List Connection) (m : ℕ) → Forest cs → parentOf cs (root cs m) ≡ top
 unfolding root parentOf
-root-free [] n m f w h = record { small = h; free = refl }
-root-free (c ∷ cs) n m f w h =
+root-free [] m f = refl
+root-free (c ∷ cs) m f =
     elim (ℕ-discrete (root cs m) (root cs (cur c))) [
-      | yes p ↦
-          let r = root-free cs n (nxt c) (f .1) (w .2) (w .1) in
-          rise (root-hung c cs m p) r (λ q. f .0 .apart (sym q))
-      | no p ↦ rise (root-kept c cs m p) (root-free cs n m (f .1) (w .2) h) p
+      | yes p ↦ rise (nxt c) (root-hung c cs m p) (root-free cs (nxt c) (f .1)) (λ q. f .0 .apart (sym q))
+      | no p ↦ rise m (root-kept c cs m p) (root-free cs m (f .1)) p
     ]
   where
-    rise : {x : ℕ} → root (c ∷ cs) m ≡ root cs x → Root cs n x → (root cs x ≡ root cs (cur c) → ⊥) → Root (c ∷ cs) n m
-    rise {x} e r a =
+    rise : (x : ℕ) → root (c ∷ cs) m ≡ root cs x → parentOf cs (root cs x) ≡ top → (root cs x ≡ root cs (cur c) → ⊥) →
+        parentOf (c ∷ cs) (root (c ∷ cs) m) ≡ top
+    rise x e h a =
         let t : root cs (cur c) ≡ cur c = root-top cs (cur c) (f .1) (f .0 .free) in
-        record {
-          small = omega (arith, e, r .small);
-          free = ap (parentOf (c ∷ cs)) e ∙ parent-old c cs (root cs x) (λ q. a (q ∙ sym t)) ∙ r .free;
-        }
+        ap (parentOf (c ∷ cs)) e ∙ parent-old c cs (root cs x) (λ q. a (q ∙ sym t)) ∙ h
+
+root-small : (cs : List Connection) (n m : ℕ) → Within n cs → m < n → root cs m < n
+unfolding root
+root-small [] n m w h = h
+root-small (c ∷ cs) n m w h =
+    elim (ℕ-discrete (root cs m) (root cs (cur c))) [
+      | yes p ↦ omega (arith, root-hung c cs m p, root-small cs n (nxt c) (w .2) (w .1))
+      | no p ↦ omega (arith, root-kept c cs m p, root-small cs n m (w .2) h)
+    ]
 
 tops-some : (cs : List Connection) (n m : ℕ) → m < n → parentOf cs m ≡ top → 0 < tops cs n
 unfolding tops
@@ -80,5 +81,4 @@ tops-some cs (suc n) m h p =
 
 pub connections-few : (cs : List Connection) (n : ℕ) → 0 < n → Forest cs → Within n cs → length cs < n
 connections-few cs n z f w =
-    let r = root-free cs n 0 f w z in
-    omega (arith, counted cs n f w, tops-some cs n (root cs 0) (r .small) (r .free))
+    omega (arith, counted cs n f w, tops-some cs n (root cs 0) (root-small cs n 0 w z) (root-free cs 0 f))

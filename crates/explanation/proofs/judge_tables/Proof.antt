@@ -5,6 +5,7 @@ use Prim.Native.Nat.{ℕ}
 use mathlib.Core.Path.{sym, ap, _∙_}
 use lib.ListN.{length, length-replicate}
 use Rattle.model.specs.Judged.{judgementOf}
+use Rattle.model.specs.Limits.{nodeLimit}
 use Rattle.entries.specs.Nodes.{NodesWhole}
 use Rattle.entries.proofs.Nodes.{nodes-whole}
 use Rattle.explanation.specs.Measure.{parentsBy}
@@ -53,7 +54,7 @@ judge-connections-requires : tie.Need-judge-connections-requires
 judge-connections-requires c κs =
     let k = c .before .before .before .before in
     let s = k .before .before .before .before .before .before .before in
-    (nodes k .stand, ap length (s .pre) ∙ length-replicate {A = ℕ} 2048 0)
+    (nodes k .stand, ap length (s .pre) ∙ length-replicate {A = ℕ} nodeLimit 0)
 
 same-length : tie.Need-same-length
 same-length c = search needs

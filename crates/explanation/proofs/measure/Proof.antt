@@ -11,6 +11,8 @@ use lib.ListN.{length}
 use Rattle.model.specs.declared.Measured.the-variants.{Distance}
 use Rattle.model.specs.Forest.{root, joined, dist}
 use Rattle.model.specs.Query.{Tables}
+use Rattle.model.specs.Tables.{nodeWords, connectionWords}
+use Rattle.model.specs.Limits.{distanceLimit}
 use Rattle.entries.specs.Nodes.{firstNodes}
 use Rattle.entries.specs.Connections.{oldest}
 use Rattle.entries.proofs.Nodes.{length-nodes}
@@ -22,8 +24,8 @@ wide-requires : tie.Need-wide-requires
 wide-requires c κs = search needs
 
 -- how many nodes there are
-many : (nws : List ℕ) (t : Tables) → t .nodes ≡ firstNodes (length nws / 10) nws → length (t .nodes) ≡ length nws / 10
-many nws t e = ap length e ∙ length-nodes (length nws / 10) nws
+many : (nws : List ℕ) (t : Tables) → t .nodes ≡ firstNodes (length nws / nodeWords) nws → length (t .nodes) ≡ length nws / nodeWords
+many nws t e = ap length e ∙ length-nodes (length nws / nodeWords) nws
 
 returns : tie.Need-returns
 returns c = λ t ns cs.
@@ -44,7 +46,7 @@ record Both (n l r : ℕ) : Type 0 where
   left : l < n
   right : r < n
 
-both : (c : tie.Else2) → let a = c .before .before .before .before .before .before .before .args in Both (length (a .nodes .now) / 10) (a .left .0) (a .right .0)
+both : (c : tie.Else2) → let a = c .before .before .before .before .before .before .before .args in Both (length (a .nodes .now) / nodeWords) (a .left .0) (a .right .0)
 both c = record { left = omega (arith, c .before .before .before .wide .ensures); right = omega (arith, c .before .wide2 .ensures) }
 
 linked-requires : tie.Need-linked-requires
@@ -66,10 +68,10 @@ slice-aggregate-distance c = search needs
 
 -- the pair is joined
 same : (c : tie.Else3) → let a = c .before .before .before .before .before .before .before .before .before .args in
-    joined (oldest (length (a .connections .now) / 5) (a .connections .now)) (a .left .0) (a .right .0) ≡ true
+    joined (oldest (length (a .connections .now) / connectionWords) (a .connections .now)) (a .left .0) (a .right .0) ≡ true
 same c = sym (c .before .linked .ensures) ∙ not-false _ (c .if3 .left)
 
-roots : (cws : List ℕ) (l r : ℕ) → joined (oldest (length cws / 5) cws) l r ≡ true → root (oldest (length cws / 5) cws) l ≡ root (oldest (length cws / 5) cws) r
+roots : (cws : List ℕ) (l r : ℕ) → joined (oldest (length cws / connectionWords) cws) l r ≡ true → root (oldest (length cws / connectionWords) cws) l ≡ root (oldest (length cws / connectionWords) cws) r
 unfolding joined
 roots cws l r e = eqb-true _ _ e
 
@@ -112,7 +114,7 @@ returns-5 c = λ t ns cs.
     let d : c .before .before .distance .result ≡ dist (t .nodes) (t .conns) (a .left .0) (a .right .0) =
     rw (ns, cs) (omega (arith, c .before .before .distance .ensures .0)) in
     ap Distance d
-    ∙ near t (a .left .0) (a .right .0) (omega (arith, m, b .left)) (omega (arith, m, b .right)) (rw cs (same k)) (subst (λ (x : ℕ). x ≤ 4095) d (c .if4 .left))
+    ∙ near t (a .left .0) (a .right .0) (omega (arith, m, b .left)) (omega (arith, m, b .right)) (rw cs (same k)) (subst (λ (x : ℕ). x ≤ distanceLimit) d (c .if4 .left))
 
 pub measure-spec : {M : Type 1} → statement M
 measure-spec =

@@ -3,13 +3,14 @@ use borrow.Author.Needs.{needs}
 use native.Mathlib.Omega.{arith}
 use Prim.Native.Nat.{_+_, _*_, _-_}
 use mathlib.Core.Path.{_≡_, _∙_}
+use Rattle.model.specs.Tables.{nodeWords, childrenAt}
 use Rattle.entries.proofs.Children.{Lower, lower-all, lower-next, lower-off, lower-done}
 use Rattle.entries.specs.Nodes.{countIn}
 use Rattle.nodes.proofs.children_below.Statement.{statement}
 use Rattle.nodes.proofs.children_below.Tie as tie
 
 abbrev Inv-loop : tie.InvT-loop
-Inv-loop nodes n count i₀ i = (count ≡ countIn nodes n) × Lower n nodes (n * 10 + 2) (countIn nodes n) i
+Inv-loop nodes n count i₀ i = (count ≡ countIn nodes n) × Lower n nodes (n * nodeWords + childrenAt) (countIn nodes n) i
 
 abbrev μ-loop : tie.MeasureT-loop
 μ-loop nodes n count i₀ i = count - i
@@ -40,7 +41,8 @@ wide-requires-2 c κs = search needs
 
 returns : tie.Need-returns Inv-loop μ-loop
 returns c =
-    let i = c .before .before .before .before .loop .inv in
+    let at-loop = c .before .before .before .before in
+    let i = at-loop .loop .inv in
     lower-off (i .1) (omega arith) (omega (arith, c .before .wide2 .ensures, c .before .before .word2 .ensures))
 
 add-i : tie.Need-add-i Inv-loop μ-loop
@@ -51,7 +53,8 @@ loop-less c = search needs
 
 loop-again : tie.Need-loop-again Inv-loop μ-loop
 loop-again c =
-    let i = c .before .before .before .before .loop .inv in
+    let at-loop = c .before .before .before .before in
+    let i = at-loop .loop .inv in
     (i .0, lower-next (i .1) (omega arith) (omega (arith, c .before .wide2 .ensures, c .before .before .word2 .ensures)))
 
 returns-2 : tie.Need-returns-2 Inv-loop μ-loop
