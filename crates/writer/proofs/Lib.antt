@@ -1,0 +1,10 @@
+pub mod Legs
+pub mod Trail
+pub mod Stands
+pub mod Laying
+pub mod Part
+pub mod Hopping
+pub mod Rewriting
+pub mod Connected
+pub mod Begun
+pub mod Kept
