@@ -93,8 +93,14 @@ module _ (ns : List Node) (conns : List ℕ) (bound r : ℕ) (f : Terms) (p q ar
   few {new} {top = top} {age = age} {up = up} lt n c =
       let g = legTerms ns conns age up in
       let rest = rowOf ns conns (n .todo) in
-      omega (arith, lies-long new turn used (n .todo) (top - 1) (n .lies), chain-long ns conns bound _ r (n .todo) (n .chain),
-      ap count (n .whole), count-join (n .done) (join g rest), count-join g rest)
+      omega (
+        arith,
+        lies-long new turn used (n .todo) (top - 1) (n .lies),
+        chain-long ns conns bound _ r (n .todo) (n .chain),
+        ap count (n .whole),
+        count-join (n .done) (join g rest),
+        count-join g rest,
+      )
 
   pub hopped : {new now : List ℕ} {top end : ℕ} → Hopping new now top end → top ≤ used → Ran p q area start f now end
   hopped {new} {now} {top} {end} h le = go (h .todo) (h .lies) (h .whole)

@@ -1,10 +1,11 @@
 pub mod Legs
 pub mod Trail
-pub mod Stands
 pub mod Laying
+pub mod Stands
 pub mod Part
+pub mod Kept
+pub mod Begun
 pub mod Hopping
 pub mod Rewriting
 pub mod Connected
-pub mod Begun
-pub mod Kept
+pub mod FirstTerm

@@ -91,8 +91,11 @@ module _ (ns : List Node) (proof : ℕ → ℕ → Terms) (o n : ℕ) (f : Terms
       let rest = runs ns proof o (k .before) xs ys in
       let room = w .room in
       ran-long (k .ran)
-      (omega (arith, ap (λ (x : Terms). length (around p q x)) (sym (k .whole)) ∙ ap length (around-join p q (k .done) rest),
-      length-append (around p q (k .done)) (around p q rest)))
+      (omega (
+        arith,
+        ap (λ (x : Terms). length (around p q x)) (sym (k .whole)) ∙ ap length (around-join p q (k .done) rest),
+        length-append (around p q (k .done)) (around p q rest),
+      ))
 
   pub children-all : {xs ys now : List ℕ} {place post end : ℕ} → xs ≡ [] → Rewriting xs ys now place post end → Ran p q area start f now end
   unfolding runs
@@ -185,9 +188,9 @@ module _ (ns : List Node) (proof : ℕ → ℕ → Terms) (o n : ℕ) (f : Terms
               done = join (k .done) run;
               ran = part-ran child-part w d;
               stands = subst (Stands after r)
-              (append-assoc p (rootOf o n (k .before)) (termWords ns y ++ outer)
-              ∙ ap (λ (m : List ℕ). p ++ (o ∷ n ∷ 0 ∷ 0 ∷ m)) (sym (append-assoc (words (k .before)) (termWords ns y) outer) ∙ ap (λ (m : List ℕ). m ++ outer) (sym new-words)))
-              (part-stands child-part w d ns x y refl leads);
+                  (append-assoc p (rootOf o n (k .before)) (termWords ns y ++ outer)
+                  ∙ ap (λ (m : List ℕ). p ++ (o ∷ n ∷ 0 ∷ 0 ∷ m)) (sym (append-assoc (words (k .before)) (termWords ns y) outer) ∙ ap (λ (m : List ℕ). m ++ outer) (sym new-words)))
+                  (part-stands child-part w d ns x y refl leads);
               whole = join-assoc (k .done) run (runs ns proof o t xs ys) ∙ k .whole;
               place-is = omega (arith, k .place-is, l);
               post-is = omega (arith, k .post-is, ap length row-words, length-append (termWords ns x) (words behind));

@@ -58,11 +58,12 @@ pub lies-kept : (trail new : List ℕ) (turn used : ℕ) (hs : List Leg) (top n 
 lies-kept trail new turn used [] top n h e k = k
 lies-kept trail new turn used (g ∷ hs) top n h e k =
     let p = k .0 in
-    let i : top - 1 < n = omega arith in
-    (p,
-     sym (getD-take n new (top - 1) 0 i) ∙ ap (λ (l : List ℕ). getD l (top - 1) 0) e ∙ getD-take n trail (top - 1) 0 i ∙ k .1,
-     k .2,
-     lies-kept trail new turn used hs (top - 1) n (omega arith) e (k .3))
+    let i : top - 1 < n = omega arith in (
+      p,
+      sym (getD-take n new (top - 1) 0 i) ∙ ap (λ (l : List ℕ). getD l (top - 1) 0) e ∙ getD-take n trail (top - 1) 0 i ∙ k .1,
+      k .2,
+      lies-kept trail new turn used hs (top - 1) n (omega arith) e (k .3),
+    )
 
 pub lies-long : (trail : List ℕ) (turn used : ℕ) (hs : List Leg) (top : ℕ) → Lies trail turn used hs top → top ≡ used + length hs
 lies-long trail turn used [] top k = k ∙ sym (add-zero used)
@@ -93,15 +94,16 @@ module _ (trail : List ℕ) (turn : ℕ) where
       h (length us) (omega arith)
       ∙ ap (λ (l : List ℕ). getD l (length us) 0) (reverse-cons u us)
       ∙ ap (λ (i : ℕ). getD (reverse us ++ (u ∷ [])) i 0) last
-      ∙ getD-append-add (reverse us) (u ∷ []) 0 0 in
-      (omega arith,
-       ap (λ (i : ℕ). getD trail i 0) e ∙ first,
-       ap (leb turn) e ∙ le-leb turn (turn + length us) (omega arith),
-       subst (Lies trail turn turn (upsOf us)) (sym e)
-       (lies-ups us (λ i b.
-       h i (omega arith)
-       ∙ ap (λ (l : List ℕ). getD l i 0) (reverse-cons u us)
-       ∙ List·getD-append (reverse us) (u ∷ []) 0 i (omega arith))))
+      ∙ getD-append-add (reverse us) (u ∷ []) 0 0 in (
+        omega arith,
+        ap (λ (i : ℕ). getD trail i 0) e ∙ first,
+        ap (leb turn) e ∙ le-leb turn (turn + length us) (omega arith),
+        subst (Lies trail turn turn (upsOf us)) (sym e)
+            (lies-ups us (λ i b.
+            h i (omega arith)
+            ∙ ap (λ (l : List ℕ). getD l i 0) (reverse-cons u us)
+            ∙ List·getD-append (reverse us) (u ∷ []) 0 i (omega arith))),
+      )
 
   lies-downs : (ds : List ℕ) (used : ℕ) (hs : List Leg) (top : ℕ) → used + length ds ≤ turn →
       ((i : ℕ) → i < length ds → getD trail (used + i) 0 ≡ getD ds i 0) → Lies trail turn (used + length ds) hs top →

@@ -7,6 +7,7 @@ use forest::age_of;
 use forest::cost_of;
 use forest::meet;
 use forest::next_of;
+use model::CONNECTION_WORDS;
 use model::Connection;
 use model::FLAT_WORDS;
 use model::Justification;
@@ -21,22 +22,21 @@ use trees::Spot;
 use trees::append;
 use trees::mark_for;
 use trees::words_of;
+use trees::write_tree;
 ghost use mathlib.Core.Path.{_≡_};
-ghost use mathlib.Core.Bool.{not};
-ghost use mathlib.Core.List.{List, [], _∷_, _++_, reverse};
-ghost use Prim.Native.Nat.{ℕ, suc, _+_, _-_, _*_, _/_, _<_, _≤_};
-ghost use lib.ListN.{length, getD, take};
+ghost use mathlib.Core.List.{List, reverse};
+ghost use Prim.Native.Nat.{ℕ, _+_, _-_, _/_, _<_, _≤_};
+ghost use lib.ListN.{length, getD};
 ghost use Rattle.model.specs.declared.Connection.{Connection};
-ghost use Rattle.model.specs.Limits.{nodeLimit, termLimit, wordLimit};
+ghost use Rattle.model.specs.Limits.{nodeLimit, termLimit, distanceLimit, wordLimit};
 ghost use Rattle.model.specs.Tables.{connectionWords};
-ghost use Rattle.model.specs.Term.{one, words, count};
-ghost use Rattle.model.specs.Node.{termOf, kidsOf, opOf};
-ghost use Rattle.model.specs.Forest.{root};
+ghost use Rattle.model.specs.Term.{words};
+ghost use Rattle.model.specs.Forest.{dist};
 ghost use Rattle.model.specs.Flat.{later, flatProof};
 ghost use Rattle.entries.specs.Connections.{connectionIn, oldest};
 ghost use Rattle.entries.specs.Nodes.{nodesOf};
 ghost use Rattle.forest.specs.Rows.{Climbs, listed, ageIn};
-ghost use Rattle.costs.specs.Costs.{Above, nodesIn};
+ghost use Rattle.costs.specs.Costs.{Above, Between};
 ghost use Rattle.trees.specs.Area.{splice};
 ghost use Rattle.writer.specs.Legs.{ages, startOf, legTerms, twinTerms, termWords};
 ghost use Rattle.writer.specs.Trail.{agesAt, Rising, Layable, LaidOut};
@@ -97,7 +97,13 @@ fn count_legs(rows: &[u16; TABLE_WORDS], from: NodeNo, to: NodeNo) -> usize
 }
 
 // Lays the climb from a node to one above it from a place on, its last connection highest, and returns where it ends.
-fn lay_down(rows: &[u16; TABLE_WORDS], trail: &mut [u16; TERM_LIMIT], used: usize, from: NodeNo, to: NodeNo) -> usize
+fn lay_down(
+    rows: &[u16; TABLE_WORDS],
+    trail: &mut [u16; TERM_LIMIT],
+    used: usize,
+    from: NodeNo,
+    to: NodeNo,
+) -> usize
     requires { ⌜ (length (now trail) ≡ termLimit) × (used ≤ termLimit) × Rising (now rows) (from .0) (to .0) (termLimit - used) ⌝ }
     ensures { λ r. ⌜ ((cs : List Connection) (n : ℕ) → Climbs cs n (now (rows .entry)) → from .0 < n → Above cs (from .0) (to .0) → (now (trail .exit) ≡ splice (now (trail .entry)) used (ages (now (rows .entry)) cs (from .0) (to .0))) × (r ≡ used + length (ages (now (rows .entry)) cs (from .0) (to .0)))) ⌝ }
 {
@@ -112,7 +118,13 @@ fn lay_down(rows: &[u16; TABLE_WORDS], trail: &mut [u16; TERM_LIMIT], used: usiz
 }
 
 // Lays the climb from a node to one above it below a place, its first connection highest.
-fn lay_up(rows: &[u16; TABLE_WORDS], trail: &mut [u16; TERM_LIMIT], top: usize, from: NodeNo, to: NodeNo)
+fn lay_up(
+    rows: &[u16; TABLE_WORDS],
+    trail: &mut [u16; TERM_LIMIT],
+    top: usize,
+    from: NodeNo,
+    to: NodeNo,
+)
     requires { ⌜ (length (now trail) ≡ termLimit) × (top ≤ termLimit) × Rising (now rows) (from .0) (to .0) top ⌝ }
     ensures { λ _. ⌜ ((cs : List Connection) (n : ℕ) → Climbs cs n (now (rows .entry)) → from .0 < n → Above cs (from .0) (to .0) → now (trail .exit) ≡ splice (now (trail .entry)) (top - length (ages (now (rows .entry)) cs (from .0) (to .0))) (reverse (ages (now (rows .entry)) cs (from .0) (to .0)))) ⌝ }
 {
@@ -126,7 +138,13 @@ fn lay_up(rows: &[u16; TABLE_WORDS], trail: &mut [u16; TERM_LIMIT], top: usize, 
 }
 
 // Lays the path between two joined nodes on the trail, from `used` on: down to the right, and above that up from the left.
-fn lay_path(rows: &[u16; TABLE_WORDS], trail: &mut [u16; TERM_LIMIT], used: usize, left: NodeNo, right: NodeNo) -> Route
+fn lay_path(
+    rows: &[u16; TABLE_WORDS],
+    trail: &mut [u16; TERM_LIMIT],
+    used: usize,
+    left: NodeNo,
+    right: NodeNo,
+) -> Route
     requires { ⌜ (length (now trail) ≡ termLimit) × Layable (now rows) used (left .0) (right .0) ⌝ }
     ensures { λ r. ⌜ ((cs : List Connection) (n : ℕ) → Climbs cs n (now (rows .entry)) → left .0 < n → right .0 < n → LaidOut (now (rows .entry)) cs (now (trail .entry)) used (left .0) (right .0) (now (trail .exit)) (r .turn) (r .top)) ⌝ }
 {
@@ -169,9 +187,31 @@ fn write_hop(
     let b = start_of(c, !up);
     let why = c.why;
     match why {
-        Justification::Rule(rule, d) => { append(nodes, area, spot, words_of(sizes, a), b, mark_for(d, up), rule) }
+        Justification::Rule(rule, d) => {
+            append(
+                nodes,
+                area,
+                spot,
+                words_of(sizes, a),
+                b,
+                mark_for(d, up),
+                rule,
+            )
+        }
         Justification::Congruence => {
-            write_congruence(nodes, conns, rows, sizes, trail, used, area, spot, age, a, b)
+            write_congruence(
+                nodes,
+                conns,
+                rows,
+                sizes,
+                trail,
+                used,
+                area,
+                spot,
+                age,
+                a,
+                b,
+            )
         }
     }
 }
@@ -251,4 +291,42 @@ fn write_path(
         end = write_hop(nodes, conns, rows, sizes, trail, top, area, at, age, up);
     }
     end
+}
+
+// Writes the flat proof of a joined pair into an area of just its words: the left node's term, and what the path appends.
+pub fn write_proof(
+    nodes: &[u16],
+    conns: &[u16],
+    rows: &[u16; TABLE_WORDS],
+    sizes: &[u32; NODE_LIMIT],
+    area: &mut [u16],
+    left: NodeNo,
+    right: NodeNo,
+)
+    requires { ⌜ Ready (now nodes) (now conns) (now rows) (now sizes) × Between (now nodes) (now conns) (left .0) (right .0) ⌝ }
+    requires { ⌜ dist (nodesOf (now nodes)) (listed (now conns)) (left .0) (right .0) ≤ distanceLimit ⌝ }
+    requires { ⌜ (length (now area) ≤ wordLimit) × (length (words (flatProof (nodesOf (now nodes)) (listed (now conns)) (left .0) (right .0))) ≡ length (now area)) ⌝ }
+    ensures { λ _. ⌜ now (area .exit) ≡ words (flatProof (nodesOf (now (nodes .entry))) (listed (now (conns .entry))) (left .0) (right .0)) ⌝ }
+{
+    let mut trail = [0u16; TERM_LIMIT];
+    let end = write_tree(nodes, left, area, 0);
+    let spot = Spot {
+        place: 0,
+        post: 0,
+        end,
+    };
+    let bound = conns.len() / CONNECTION_WORDS;
+    write_path(
+        nodes,
+        conns,
+        rows,
+        sizes,
+        &mut trail,
+        0,
+        area,
+        spot,
+        bound,
+        left,
+        right,
+    );
 }

@@ -88,11 +88,12 @@ loop-again c = λ cs n k h a.
     let used = s .args .used in
     let new = agesAt (s .args .rows .now) (l .loop .at .0) in
     climb-next k (l .loop .inv cs n k h a) _ (t .if1 .taken) (c .next-of .ensures)
-    (λ done fits e.
-    (c .before .before .lay .ensures
-    ∙ ap₂ (λ (x : List ℕ) (y : ℕ). splice x y new) (e .0) (e .1)
-    ∙ splice-more old used done new (omega (arith, e .1, room t .0, s .pre .0)),
-     omega (arith, c .before .legs-at .ensures, e .1, length-append done new)))
+    (λ done fits e. (
+      c .before .before .lay .ensures
+          ∙ ap₂ (λ (x : List ℕ) (y : ℕ). splice x y new) (e .0) (e .1)
+          ∙ splice-more old used done new (omega (arith, e .1, room t .0, s .pre .0)),
+      omega (arith, c .before .legs-at .ensures, e .1, length-append done new),
+    ))
 
 returns : tie.Need-returns Inv-loop μ-loop
 returns c = λ cs n k h a. climb-all k (c .before .before .before .loop .inv cs n k h a) (c .if1 .left)

@@ -65,15 +65,18 @@ lay-down-requires c κs =
     let m = c .before .before in
     let s = m .before .before .before in
     let p = s .pre .1 in
-    let few = room m in
-    (s .pre .0, omega arith, record {
-      conns = p .conns;
-      nodes = p .nodes;
-      climbs = p .climbs;
-      inside = p .right-in;
-      above = met-here m .right;
-      few = omega arith;
-    })
+    let few = room m in (
+      s .pre .0,
+      omega arith,
+      record {
+        conns = p .conns;
+        nodes = p .nodes;
+        climbs = p .climbs;
+        inside = p .right-in;
+        above = met-here m .right;
+        few = omega arith;
+      },
+    )
 
 count-legs-requires : tie.Need-count-legs-requires
 count-legs-requires c κs =
@@ -123,15 +126,18 @@ lay-up-requires c κs =
     let few = room m in
     let turn = w .turn-is in
     let ups = w .ups-is in
-    let long = s .pre .0 in
-    (ap length (w .trail-is) ∙ length-splice _ _ _ (omega arith) ∙ long, omega arith, record {
-      conns = p .conns;
-      nodes = p .nodes;
-      climbs = p .climbs;
-      inside = p .left-in;
-      above = met-here m .left;
-      few = omega arith;
-    })
+    let long = s .pre .0 in (
+      ap length (w .trail-is) ∙ length-splice _ _ _ (omega arith) ∙ long,
+      omega arith,
+      record {
+        conns = p .conns;
+        nodes = p .nodes;
+        climbs = p .climbs;
+        inside = p .left-in;
+        above = met-here m .left;
+        few = omega arith;
+      },
+    )
 
 enum-told : tie.Need-enum-told
 enum-told c = search needs

@@ -59,9 +59,10 @@ room c =
     let high = s .pre .1 in
     let e = climb l .so .1 in
     let r = p .few in
-    let d = climb l .done in
-    (omega arith,
-     ap length (climb l .so .0) ∙ length-splice (s .args .trail .now) (l .loop .start) (reverse d) (omega (arith, length-back d)) ∙ long)
+    let d = climb l .done in (
+      omega arith,
+      ap length (climb l .so .0) ∙ length-splice (s .args .trail .now) (l .loop .start) (reverse d) (omega (arith, length-back d)) ∙ long,
+    )
 
 sub-start : tie.Need-sub-start Inv-loop μ-loop
 sub-start c = omega (arith, c .legs-at .ensures, room (c .before) .0)
@@ -93,12 +94,13 @@ loop-again c = λ cs n k h a.
     climb-next k (l .loop .inv cs n k h a) _ (t .if1 .taken) (c .next-of .ensures)
     (λ done fits e.
     let one = c .before .before .before .legs-at .ensures in
-    let up : l .loop .start ≡ start + length new = omega (arith, one, room t .0) in
-    (c .before .lay .ensures
-    ∙ ap (λ (x : List ℕ). splice x start new) (e .0 ∙ ap (λ (i : ℕ). splice old i (reverse done)) up)
-    ∙ splice-under old start new (reverse done) (omega (arith, e .1, length-back done, s .pre .0, s .pre .1))
-    ∙ ap (splice old start) (sym (back-one (s .args .rows .now) (l .loop .at .0) done)),
-     omega (arith, e .1, length-append done new)))
+    let up : l .loop .start ≡ start + length new = omega (arith, one, room t .0) in (
+      c .before .lay .ensures
+          ∙ ap (λ (x : List ℕ). splice x start new) (e .0 ∙ ap (λ (i : ℕ). splice old i (reverse done)) up)
+          ∙ splice-under old start new (reverse done) (omega (arith, e .1, length-back done, s .pre .0, s .pre .1))
+          ∙ ap (splice old start) (sym (back-one (s .args .rows .now) (l .loop .at .0) done)),
+      omega (arith, e .1, length-append done new),
+    ))
 
 returns : tie.Need-returns Inv-loop μ-loop
 returns c = λ cs n k h b.

@@ -50,14 +50,32 @@ write-path-below t = and 6 write-path-kinds.ps (falls 6 write-path-kinds.ps _<_ 
 
 -- what the calls ask for and give
 abbrev pub congruence-claims : ℕ → write-congruence-lts.Claims
-congruence-claims t =
-    (count-of-reads.Asked, count-of-reads.Learnt, words-of-reads.Asked, words-of-reads.Learnt, child-of-reads.Asked, child-of-reads.Learnt,
-     write-path-below t, write-path.Post)
+congruence-claims t = (
+  count-of-reads.Asked,
+  count-of-reads.Learnt,
+  words-of-reads.Asked,
+  words-of-reads.Learnt,
+  child-of-reads.Asked,
+  child-of-reads.Learnt,
+  write-path-below t,
+  write-path.Post,
+)
 
 abbrev pub hop-claims : ℕ → write-hop-lts.Claims
-hop-claims t =
-    (connection-at-reads.Asked, connection-at-reads.Learnt, start-of-reads.Asked, start-of-reads.Learnt, words-of-reads.Asked, words-of-reads.Learnt,
-     mark-for-reads.Asked, mark-for-reads.Learnt, append-reads.Asked, append-reads.Learnt, write-congruence-below t, write-congruence.Post)
+hop-claims t = (
+  connection-at-reads.Asked,
+  connection-at-reads.Learnt,
+  start-of-reads.Asked,
+  start-of-reads.Learnt,
+  words-of-reads.Asked,
+  words-of-reads.Learnt,
+  mark-for-reads.Asked,
+  mark-for-reads.Learnt,
+  append-reads.Asked,
+  append-reads.Learnt,
+  write-congruence-below t,
+  write-congruence.Post,
+)
 
 abbrev pub path-claims : ℕ → write-path-lts.Claims
 path-claims t = (lay-path-reads.Asked, lay-path-reads.Learnt, age-on-reads.Asked, age-on-reads.Learnt, write-hop-below t, write-hop.Post)

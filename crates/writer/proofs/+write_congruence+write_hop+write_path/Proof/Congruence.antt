@@ -70,10 +70,11 @@ module _ (t : ℕ) where
       let m = s .pre .1 .0 .1 in
       let k = s .pre .1 .1 .stood in
       let n = c .before .count-of .ensures in
-      let some = one-long (termOf (nodesOf (a .nodes .now)) (a .a .0)) in
-      (kept-all,
-       twin-start (a .nodes .now) (a .conns .now) (a .age) (a .a .0) (a .b .0) _ (accepted-nodes (s .pre .1 .0 .0)) (m .left-in) (m .right-in)
-       n (n ∙ m .twins .even) (cut k) (omega (arith, length-pre k)) (omega (arith, length-post k, all-is c)))
+      let some = one-long (termOf (nodesOf (a .nodes .now)) (a .a .0)) in (
+        kept-all,
+        twin-start (a .nodes .now) (a .conns .now) (a .age) (a .a .0) (a .b .0) _ (accepted-nodes (s .pre .1 .0 .0)) (m .left-in) (m .right-in)
+            n (n ∙ m .twins .even) (cut k) (omega (arith, length-pre k)) (omega (arith, length-post k, all-is c)),
+      )
 
   -- another pair is left
   more : (c : lts.In-loop (congruence-claims t) (write-congruence-at t) write-congruence.Post Inv-loop μ-loop) →
@@ -209,11 +210,14 @@ module _ (t : ℕ) where
       let s = l .before .before .before .before .before .before in
       let k = s .pre .1 .1 in
       let p = pre-plain (k .stood) in
-      let q = post-plain (k .stood) in
-      (omega (arith, s .pre .0),
-       ((s .pre .1 .0 .0, reached d),
-       part-asked (child-part _ _ _ _ _ _ _ _ _ (state d) p q (spot w) refl (behind w) refl) (whole l) (l .loop .inv .0 .long ∙ k .long) (s .args .used)
-       (child-few _ _ _ _ _ _ _ _ _ (state d) p q (spot w) refl (behind w) refl (s .args .used) (k .few))))
+      let q = post-plain (k .stood) in (
+        omega (arith, s .pre .0),
+        (
+          (s .pre .1 .0 .0, reached d),
+          part-asked (child-part _ _ _ _ _ _ _ _ _ (state d) p q (spot w) refl (behind w) refl) (whole l) (l .loop .inv .0 .long ∙ k .long) (s .args .used)
+              (child-few _ _ _ _ _ _ _ _ _ (state d) p q (spot w) refl (behind w) refl (s .args .used) (k .few)),
+        ),
+      )
 
   words-of-requires-3 : lts.Need-words-of-requires-3 (congruence-claims t) (write-congruence-at t) write-congruence.Post Inv-loop μ-loop
   words-of-requires-3 c κs =
@@ -255,10 +259,11 @@ module _ (t : ℕ) where
       let d = w .before in
       let l = d .before .before .before in
       let s = l .before .before .before .before .before .before in
-      let k = s .pre .1 .1 in
-      (kept-more (l .loop .inv .0) (g .write-path .ensures .1),
-       child-next _ _ _ _ _ _ _ _ _ (state d) (pre-plain (k .stood)) (post-plain (k .stood)) (spot w) refl (behind w) refl (whole l)
-       (g .write-path .ensures .0) (leads (s .pre .1 .0 .0) (reached d)) _ (omega (arith, new-is c .0)))
+      let k = s .pre .1 .1 in (
+        kept-more (l .loop .inv .0) (g .write-path .ensures .1),
+        child-next _ _ _ _ _ _ _ _ _ (state d) (pre-plain (k .stood)) (post-plain (k .stood)) (spot w) refl (behind w) refl (whole l)
+            (g .write-path .ensures .0) (leads (s .pre .1 .0 .0) (reached d)) _ (omega (arith, new-is c .0)),
+      )
 
   -- every child is rewritten
   all : (c : lts.After-loop (congruence-claims t) (write-congruence-at t) write-congruence.Post Inv-loop μ-loop) →

@@ -127,11 +127,17 @@ module _ (t : ℕ) where
       let m = markFor (w .why .given .0 .0 .0) (w .why .given .0 .1 .0) (a .up) in
       let old = old-is (c .before) in
       let place = k .stood .room in
-      let room = k .room in
-      ((s .pre .1 .0 .0 .table, to-in e, mark-word (walked (w .why .given .0 .1 .0) (a .up)) (c .mark-for .ensures)),
-       ((k .stood .whole .0, k .stood .whole .2, omega arith),
-       omega (arith, marked-room ns (e .start-of2 .result .0) (k .stood) m,
-       ap (λ (f : Terms). length (around (preOf (a .area .now) (a .spot) (length (termWords ns (e .before .start-of .result .0)))) (postOf (a .area .now) (a .spot)) f)) (rule-terms w))))
+      let room = k .room in (
+        (s .pre .1 .0 .0 .table, to-in e, mark-word (walked (w .why .given .0 .1 .0) (a .up)) (c .mark-for .ensures)),
+        (
+          (k .stood .whole .0, k .stood .whole .2, omega arith),
+          omega (
+            arith,
+            marked-room ns (e .start-of2 .result .0) (k .stood) m,
+            ap (λ (f : Terms). length (around (preOf (a .area .now) (a .spot) (length (termWords ns (e .before .start-of .result .0)))) (postOf (a .area .now) (a .spot)) f)) (rule-terms w),
+          ),
+        ),
+      )
 
   enum-told : lts.Need-enum-told (hop-claims t) (write-hop-at t) write-hop.Post
   enum-told c = search needs
@@ -160,12 +166,17 @@ module _ (t : ℕ) where
       let e = k .before .before in
       let s = e .before .before .before .before .before .before in
       let a = s .args in
-      let twin = matched (s .pre .1 .0 .0 .support) (a .age) (s .pre .1 .0 .1) (a .up) (congruent k) in
-      (omega (arith, s .pre .0),
-       ((s .pre .1 .0 .0,
-       subst₂ (λ (x y : NodeNo). Matched (a .nodes .now) (a .conns .now) (a .age) (x .0) (y .0)) (sym (from-is e)) (sym (to-is e)) twin),
-       subst (λ (f : Terms). Asked (a .trail .now) (a .area .now) (a .spot) (termWords (nodesOf (a .nodes .now)) (e .before .start-of .result .0)) f (a .used))
-       (twin-terms k) (asked e)))
+      let twin = matched (s .pre .1 .0 .0 .support) (a .age) (s .pre .1 .0 .1) (a .up) (congruent k) in (
+        omega (arith, s .pre .0),
+        (
+          (
+            s .pre .1 .0 .0,
+            subst₂ (λ (x y : NodeNo). Matched (a .nodes .now) (a .conns .now) (a .age) (x .0) (y .0)) (sym (from-is e)) (sym (to-is e)) twin,
+          ),
+          subst (λ (f : Terms). Asked (a .trail .now) (a .area .now) (a .spot) (termWords (nodesOf (a .nodes .now)) (e .before .start-of .result .0)) f (a .used))
+              (twin-terms k) (asked e),
+        ),
+      )
 
   same-length : lts.Need-same-length (hop-claims t) (write-hop-at t) write-hop.Post
   same-length c = search needs
@@ -184,10 +195,11 @@ module _ (t : ℕ) where
       p .append .ensures .1
       ∙ ap₂
       (λ (o : ℕ) (x : Direction). splice (a .area .now) (a .spot .end) (preOf (a .area .now) (a .spot) o ++ (words (markedTerm ns (marked x r) b) ++ postOf (a .area .now) (a .spot))))
-      (old-is (p .before .before)) d in
-      (subst₂ (λ (x : NodeNo) (f : Terms). Wrote (a .area .now) (a .spot) (termWords ns (x .0)) f (p .append .last .1 .0) (p .append .result))
-      (from-is e) (sym (rule-terms w)) (marked-wrote ns b (asked e .stood) _ (p .append .ensures .0) after),
-       kept-all)
+      (old-is (p .before .before)) d in (
+        subst₂ (λ (x : NodeNo) (f : Terms). Wrote (a .area .now) (a .spot) (termWords ns (x .0)) f (p .append .last .1 .0) (p .append .result))
+            (from-is e) (sym (rule-terms w)) (marked-wrote ns b (asked e .stood) _ (p .append .ensures .0) after),
+        kept-all,
+      )
 
   same-length-2 : lts.Need-same-length-2 (hop-claims t) (write-hop-at t) write-hop.Post
   same-length-2 c = search needs
@@ -198,12 +210,13 @@ module _ (t : ℕ) where
       let k = p .before .before .before in
       let e = k .before .before in
       let a = e .before .before .before .before .before .before .args in
-      let ns = nodesOf (a .nodes .now) in
-      (subst₂
-      (λ (x : NodeNo) (f : Terms).
-      Wrote (a .area .now) (a .spot) (termWords ns (x .0)) f (p .write-congruence .last .1 .1 .1 .1 .1 .1 .0) (p .write-congruence .result))
-      (from-is e) (sym (twin-terms k)) (p .write-congruence .ensures .0),
-       p .write-congruence .ensures .1)
+      let ns = nodesOf (a .nodes .now) in (
+        subst₂
+            (λ (x : NodeNo) (f : Terms).
+            Wrote (a .area .now) (a .spot) (termWords ns (x .0)) f (p .write-congruence .last .1 .1 .1 .1 .1 .1 .0) (p .write-congruence .result))
+            (from-is e) (sym (twin-terms k)) (p .write-congruence .ensures .0),
+        p .write-congruence .ensures .1,
+      )
 
 pub hop-spec : {M : Type 1} (t : ℕ) → lts.Closed (hop-claims t) (write-hop-at t) write-hop.Post M
 hop-spec t =

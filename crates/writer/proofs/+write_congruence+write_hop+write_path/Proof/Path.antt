@@ -134,11 +134,12 @@ module _ (t : ℕ) where
       let w = c .before .before in
       let i = w .before .before .before .before .before .before in
       let l = i .before in
-      let lt = i .loop-test .taken in
-      (kept-more (l .loop .inv .0) (kept-less (omega arith) (w .write-hop .ensures .1)),
-       λ a b g.
-       hopping-next g lt (next _ _ _ _ _ _ _ _ _ _ _ (l .loop .inv .1 a b g) lt (w .before .before .before .before .age-on .ensures) refl)
-       (w .write-hop .ensures .1 .same) (w .write-hop .ensures .0))
+      let lt = i .loop-test .taken in (
+        kept-more (l .loop .inv .0) (kept-less (omega arith) (w .write-hop .ensures .1)),
+        λ a b g.
+            hopping-next g lt (next _ _ _ _ _ _ _ _ _ _ _ (l .loop .inv .1 a b g) lt (w .before .before .before .before .age-on .ensures) refl)
+            (w .write-hop .ensures .1 .same) (w .write-hop .ensures .0),
+      )
 
   same-length : lts.Need-same-length (path-claims t) (write-path-at t) write-path.Post Inv-loop μ-loop
   same-length c =
