@@ -1,10 +1,9 @@
 -- What the tables give to the writers: accepted nodes and connections, paths that can be laid, and what lies on the trail then.
-use Prim.Native.Nat.{ℕ, _+_, _/_, _≤_, _<_}
-use mathlib.Core.List.{List, [], _∷_, _++_}
+use Prim.Native.Nat.{ℕ, _+_, _/_, _≤_}
+use mathlib.Core.List.{List, [], _++_}
 use mathlib.Core.Path.{_≡_, ap, subst}
 use native.Mathlib.Omega.{arith}
 use lib.ListN.{length}
-use Rattle.model.specs.declared.Connection.{Connection}
 use Rattle.model.specs.Forest.{cur, root}
 use Rattle.model.specs.Limits.{distanceLimit, termLimit}
 use Rattle.model.specs.Tables.{connectionWords}
@@ -21,11 +20,11 @@ use Rattle.flat.specs.Ends.{Leads}
 use Rattle.flat.specs.Nodes.{AcceptedNodes}
 use Rattle.flat.proofs.Tables.{table-nodes}
 use Rattle.flat.proofs.Way.{way}
-use Rattle.writer.specs.Legs.{Leg, ages, costly, legs}
-use Rattle.writer.specs.Trail.{Layable, LaidOut}
+use Rattle.trail.specs.Legs.{Leg, ages, costly, legs}
+use Rattle.trail.specs.Laid.{Layable, LaidOut}
 use Rattle.writer.specs.Written.{Ready, Reached}
 use Rattle.writer.proofs.Legs.{Trip, accepted-older, chain-long, trip}
-use Rattle.writer.proofs.Trail.{Lies, legs-long, lies}
+use Rattle.trail.proofs.Lies.{Lies, legs-long, lies}
 
 module _ {nodes conns rows sizes : List ℕ} (k : Ready nodes conns rows sizes) where
   pub accepted-nodes : AcceptedNodes (nodesOf nodes)

@@ -1,8 +1,8 @@
 -- What one connection appends: a rule the marked term of the node it leads to, a congruence its children's runs.
-use Prim.Native.Nat.{ℕ, _+_, _-_, _*_, _/_, _≤_, _<_}
+use Prim.Native.Nat.{ℕ, _+_, _-_, _*_, _/_, _<_}
 use mathlib.Core.Bool.{Bool, true, false, not}
-use mathlib.Core.List.{List, [], _∷_, _++_, append-nil}
-use mathlib.Core.Path.{_≡_, refl, sym, ap, ap₂, _∙_}
+use mathlib.Core.List.{List, _++_, append-nil}
+use mathlib.Core.Path.{_≡_, refl, sym, ap, _∙_}
 use native.Mathlib.Omega.{arith}
 use lib.ListN.{length, length-append}
 use Rattle.model.specs.declared.Direction.{Direction}
@@ -12,18 +12,17 @@ use Rattle.model.specs.declared.RuleNo.{RuleNo}
 use Rattle.model.specs.Limits.{flatWords}
 use Rattle.model.specs.Tables.{connectionWords}
 use Rattle.model.specs.Node.{Node}
-use Rattle.model.specs.Term.{Mark, marked, directionWord, words, size}
-use Rattle.model.specs.Flat.{appended, markFor, markedTerm, sizeOf, walked}
+use Rattle.model.specs.Term.{Mark, directionWord, words, size}
+use Rattle.model.specs.Flat.{appended, markFor, markedTerm, sizeOf}
 use Rattle.terms.proofs.Rows.{length-words}
-use Rattle.entries.specs.Connections.{connectionIn, Supported, Twins}
-use Rattle.entries.specs.Nodes.{nodesOf}
+use Rattle.entries.specs.Connections.{connectionIn, Supported}
 use Rattle.entries.proofs.Support.{current-here, next-here, twins}
 use Rattle.costs.specs.Costs.{nodesIn}
 use Rattle.flat.proofs.NodeTerms.{term-size}
 use Rattle.trees.specs.Area.{splice, around, directionOf}
 use Rattle.trees.specs.declared.Spot.{Spot}
-use Rattle.writer.specs.Legs.{startOf, legTerms, twinTerms}
-use Rattle.writer.specs.Written.{preOf, postOf, Stood, Ran, Wrote, Matched}
+use Rattle.writer.specs.Appends.{startOf, legTerms, twinTerms}
+use Rattle.writer.specs.Written.{preOf, postOf, Stood, Wrote, Matched}
 use Rattle.writer.proofs.Stands.{length-pre, length-post}
 
 module _ (ns : List Node) (conns : List ℕ) (age : ℕ) where

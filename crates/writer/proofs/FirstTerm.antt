@@ -11,7 +11,6 @@ use Rattle.model.specs.Forest.{dist}
 use Rattle.model.specs.Node.{Node, termOf}
 use Rattle.model.specs.Term.{Terms, one, count, words}
 use Rattle.model.specs.Flat.{flatProof, later, sizeOf}
-use Rattle.paths.specs.Hangs.{Accepted}
 use Rattle.terms.proofs.Rows.{length-words, put-words}
 use Rattle.entries.specs.Nodes.{nodesOf}
 use Rattle.forest.specs.Rows.{listed}
@@ -23,7 +22,7 @@ use Rattle.trees.specs.declared.Spot.{Spot}
 use Rattle.trees.proofs.Area.{length-splice, part-written, splice-all, splice-more}
 use Rattle.trees.proofs.Around.{around-none}
 use Rattle.trees.proofs.Bare.{bare-term, whole-words}
-use Rattle.writer.specs.Legs.{termWords}
+use Rattle.writer.specs.Appends.{termWords}
 use Rattle.writer.specs.Written.{postOf, preOf, Asked, Ready, Reached, Wrote}
 use Rattle.writer.proofs.Begun.{accepted-below, accepted-nodes}
 use Rattle.writer.proofs.Stands.{Stands, post-is, pre-is, stood}

@@ -1,8 +1,8 @@
 -- The path writer's loop: what lies on the trail is still to be walked, what was taken from it is written.
-use Prim.Native.Nat.{ℕ, zero, suc, _+_, _-_, _≤_, _<_}
+use Prim.Native.Nat.{ℕ, _+_, _-_, _≤_, _<_}
 use mathlib.Core.Bool.{Bool, not}
 use mathlib.Core.List.{List, [], _∷_, _++_}
-use mathlib.Core.Path.{_≡_, refl, sym, ap, ap₂, subst, _∙_}
+use mathlib.Core.Path.{_≡_, refl, sym, ap, subst, _∙_}
 use native.Mathlib.Omega.{arith}
 use lib.Dec.{leb}
 use lib.ListN.{length, getD, take}
@@ -10,19 +10,19 @@ use Rattle.model.specs.Limits.{distanceLimit, termLimit}
 use Rattle.model.specs.Node.{Node, termOf}
 use Rattle.model.specs.Term.{Terms, Term, noTerms, one, words, count, join}
 use Rattle.terms.proofs.Rows.{count-join, join-assoc, join-none}
-use Rattle.flat.specs.Ends.{Leads}
 use Rattle.model.specs.Flat.{later}
 use Rattle.paths.specs.Hangs.{Accepted}
 use Rattle.entries.specs.Connections.{connectionIn, oldest}
 use Rattle.flat.specs.Nodes.{AcceptedNodes}
 use Rattle.trees.specs.declared.Spot.{Spot}
 use Rattle.trees.proofs.Bare.{whole-words}
-use Rattle.writer.specs.Legs.{Leg, startOf, legTerms, termWords}
+use Rattle.trail.specs.Legs.{Leg}
+use Rattle.writer.specs.Appends.{startOf, legTerms, termWords}
 use Rattle.writer.specs.Written.{preOf, postOf, Ran, Wrote, Asked}
 use Rattle.writer.proofs.Legs.{Chain, Trip, chain-long, leg-way, rowOf}
 use Rattle.writer.proofs.Part.{Part, Whole, part-asked, part-ran, part-stands}
 use Rattle.writer.proofs.Stands.{Stands, Plain, cut, length-post, length-pre, post-plain, pre-plain, ran-none}
-use Rattle.writer.proofs.Trail.{Lies, lies-kept, lies-long}
+use Rattle.trail.proofs.Lies.{Lies, lies-kept, lies-long}
 
 -- the run of terms f, from the start, whose legs below a bound lead to node r
 module _ (ns : List Node) (conns : List ℕ) (bound r : ℕ) (f : Terms) (p q area : List ℕ) (start turn used : ℕ) where

@@ -24,7 +24,8 @@ use Rattle.flat.specs.Nodes.{AcceptedNodes}
 use Rattle.flat.proofs.NodeTerms.{term-strip}
 use Rattle.flat.proofs.Walked.{walked}
 use Rattle.flat.proofs.Way.{Way, way-up, way-down, way-free}
-use Rattle.writer.specs.Legs.{Leg, costly, legs, startOf, legTerms}
+use Rattle.trail.specs.Legs.{Leg, costly, legs}
+use Rattle.writer.specs.Appends.{startOf, legTerms}
 
 -- what legs append, one behind the other
 abbrev pub rowOf : List Node → List ℕ → List Leg → Terms

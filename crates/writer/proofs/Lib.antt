@@ -1,6 +1,4 @@
 pub mod Legs
-pub mod Trail
-pub mod Laying
 pub mod Stands
 pub mod Part
 pub mod Kept

@@ -12,7 +12,7 @@ use Rattle.trees.specs.Area.{around, WholeNodes}
 use Rattle.trees.specs.declared.Spot.{Spot}
 use Rattle.trees.proofs.Area.{length-splice}
 use Rattle.trees.proofs.Around.{around-join}
-use Rattle.writer.specs.Legs.{termWords}
+use Rattle.writer.specs.Appends.{termWords}
 use Rattle.writer.specs.Written.{preOf, postOf, Ran, Wrote, Asked}
 use Rattle.writer.proofs.Stands.{Stands, Plain, pre-is, post-is, stood, stands-next, ran-more}
 

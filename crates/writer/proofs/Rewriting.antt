@@ -24,7 +24,7 @@ use Rattle.trees.specs.Sizes.{Sized}
 use Rattle.trees.specs.declared.Spot.{Spot}
 use Rattle.trees.proofs.Around.{around-join, around-within}
 use Rattle.trees.proofs.Bare.{whole-words, bare-term, bare-terms}
-use Rattle.writer.specs.Legs.{termWords, twinTerms}
+use Rattle.writer.specs.Appends.{termWords, twinTerms}
 use Rattle.writer.specs.Written.{Ran, Wrote}
 use Rattle.writer.proofs.Part.{Part, Whole, part-end, part-long, part-ran, part-stands}
 use Rattle.writer.proofs.Stands.{Stands, Plain, plain-append, ran-long, ran-none}

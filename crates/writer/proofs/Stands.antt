@@ -1,6 +1,6 @@
 -- The last term of the area, marks aside: its words cut around a spot, and what stands there once more terms are written behind it.
 use Prim.Native.Nat.{ℕ, _+_, _-_, _≤_}
-use mathlib.Core.List.{List, [], _∷_, _++_, append-assoc, append-nil}
+use mathlib.Core.List.{List, [], _++_, append-assoc, append-nil}
 use mathlib.Core.Path.{_≡_, refl, sym, ap, ap₂, subst₂, _∙_}
 use native.Mathlib.Omega.{arith}
 use native.Mathlib.Nat.{add-zero}
@@ -15,7 +15,7 @@ use Rattle.trees.proofs.Area.{length-splice, length-part, part-more, part-part,
 use Rattle.trees.proofs.Bare.{length-bare, bare-bare, bare-append, bare-part, bare-words, whole-words}
 use Rattle.trees.proofs.Around.{around-join}
 use Rattle.writer.specs.Written.{preOf, postOf, Stood, Ran}
-use Rattle.writer.specs.Legs.{termWords}
+use Rattle.writer.specs.Appends.{termWords}
 
 -- the words ws stand before `end`, marks aside
 pub record Stands (area : List ℕ) (end : ℕ) (ws : List ℕ) : Type 0 where

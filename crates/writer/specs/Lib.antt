@@ -1,3 +1,2 @@
-pub mod Legs
-pub mod Trail
+pub mod Appends
 pub mod Written

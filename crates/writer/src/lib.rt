@@ -1,12 +1,8 @@
 // The flat proof of a joined pair, written: path writer and congruence writer call each other, and the bound on age falls at each round.
-// A path is laid on a trail first: a stack of the ages of its connections, the first to be walked highest, which all open calls share. A
-// connection that costs nothing appends nothing and is never laid, so that the trail holds no more than the distance.
+// Each appends at a spot of the last term: how many words stand before it and behind it is known, so that nothing is searched. The costly
+// connections of a path are laid on a trail that all open calls share, and taken from it one by one.
 use connections::connection_at;
 use forest::TABLE_WORDS;
-use forest::age_of;
-use forest::cost_of;
-use forest::meet;
-use forest::next_of;
 use model::CONNECTION_WORDS;
 use model::Connection;
 use model::FLAT_WORDS;
@@ -14,154 +10,35 @@ use model::Justification;
 use model::NODE_LIMIT;
 use model::NodeNo;
 use model::TERM_LIMIT;
-use model::wide;
 use nodes::child_of;
 use nodes::count_of;
-use paths::Meeting;
+use trail::age_on;
+use trail::lay_path;
 use trees::Spot;
 use trees::append;
 use trees::mark_for;
 use trees::words_of;
 use trees::write_tree;
 ghost use mathlib.Core.Path.{_≡_};
-ghost use mathlib.Core.List.{List, reverse};
-ghost use Prim.Native.Nat.{ℕ, _+_, _-_, _/_, _<_, _≤_};
-ghost use lib.ListN.{length, getD};
-ghost use Rattle.model.specs.declared.Connection.{Connection};
-ghost use Rattle.model.specs.Limits.{nodeLimit, termLimit, distanceLimit, wordLimit};
+ghost use Prim.Native.Nat.{_/_, _<_, _≤_};
+ghost use lib.ListN.{length};
+ghost use Rattle.model.specs.Limits.{distanceLimit, wordLimit};
 ghost use Rattle.model.specs.Tables.{connectionWords};
 ghost use Rattle.model.specs.Term.{words};
 ghost use Rattle.model.specs.Forest.{dist};
 ghost use Rattle.model.specs.Flat.{later, flatProof};
 ghost use Rattle.entries.specs.Connections.{connectionIn, oldest};
 ghost use Rattle.entries.specs.Nodes.{nodesOf};
-ghost use Rattle.forest.specs.Rows.{Climbs, listed, ageIn};
-ghost use Rattle.costs.specs.Costs.{Above, Between};
-ghost use Rattle.trees.specs.Area.{splice};
-ghost use Rattle.writer.specs.Legs.{ages, startOf, legTerms, twinTerms, termWords};
-ghost use Rattle.writer.specs.Trail.{agesAt, Rising, Layable, LaidOut};
+ghost use Rattle.forest.specs.Rows.{listed};
+ghost use Rattle.costs.specs.Costs.{Between};
+ghost use Rattle.writer.specs.Appends.{startOf, legTerms, twinTerms, termWords};
 ghost use Rattle.writer.specs.Written.{Ready, Wrote, Asked, Kept, Reached, Matched};
-
-// A path on the trail: the connections at `turn` and above are walked up, those below it down.
-pub struct Route {
-    pub turn: usize,
-    pub top: usize,
-}
 
 // The node that a connection starts from, walked up or down.
 fn start_of(c: Connection, up: bool) -> NodeNo
     ensures { λ r. ⌜ r ≡ startOf c up ⌝ }
 {
     if up { c.current } else { c.next }
-}
-
-// The age that lies on the trail at a place.
-fn age_on(trail: &[u16; TERM_LIMIT], at: usize) -> usize
-    requires { ⌜ at < termLimit ⌝ }
-    ensures { λ r. ⌜ r ≡ getD (now (trail .entry)) at 0 ⌝ }
-{
-    wide(trail[at])
-}
-
-// Whether a node's parent connection is to be walked, as a count.
-fn legs_at(rows: &[u16; TABLE_WORDS], n: NodeNo) -> usize
-    requires { ⌜ n .0 < nodeLimit ⌝ }
-    ensures { λ r. ⌜ r ≡ length (agesAt (now (rows .entry)) (n .0)) ⌝ }
-{
-    if cost_of(rows, n) == 0 { 0 } else { 1 }
-}
-
-// Lays a node's parent connection on the trail, if it costs anything.
-fn lay(rows: &[u16; TABLE_WORDS], trail: &mut [u16; TERM_LIMIT], at: usize, n: NodeNo)
-    requires { ⌜ (length (now trail) ≡ termLimit) × (n .0 < nodeLimit) × (0 < ageIn (now rows) (n .0)) × (ageIn (now rows) (n .0) ≤ nodeLimit) × (at + length (agesAt (now rows) (n .0)) ≤ termLimit) ⌝ }
-    ensures { λ _. ⌜ now (trail .exit) ≡ splice (now (trail .entry)) at (agesAt (now (rows .entry)) (n .0)) ⌝ }
-{
-    if cost_of(rows, n) == 0 {
-        return;
-    }
-    trail[at] = (age_of(rows, n) - 1) as u16;
-}
-
-// How many connections the climb from a node to one above it lays.
-fn count_legs(rows: &[u16; TABLE_WORDS], from: NodeNo, to: NodeNo) -> usize
-    requires { ⌜ Rising (now rows) (from .0) (to .0) termLimit ⌝ }
-    ensures { λ r. ⌜ ((cs : List Connection) (n : ℕ) → Climbs cs n (now (rows .entry)) → from .0 < n → Above cs (from .0) (to .0) → r ≡ length (ages (now (rows .entry)) cs (from .0) (to .0))) ⌝ }
-{
-    let mut at = from;
-    let mut count: usize = 0;
-    while at.0 != to.0 {
-        count += legs_at(rows, at);
-        at = next_of(rows, at);
-    }
-    count
-}
-
-// Lays the climb from a node to one above it from a place on, its last connection highest, and returns where it ends.
-fn lay_down(
-    rows: &[u16; TABLE_WORDS],
-    trail: &mut [u16; TERM_LIMIT],
-    used: usize,
-    from: NodeNo,
-    to: NodeNo,
-) -> usize
-    requires { ⌜ (length (now trail) ≡ termLimit) × (used ≤ termLimit) × Rising (now rows) (from .0) (to .0) (termLimit - used) ⌝ }
-    ensures { λ r. ⌜ ((cs : List Connection) (n : ℕ) → Climbs cs n (now (rows .entry)) → from .0 < n → Above cs (from .0) (to .0) → (now (trail .exit) ≡ splice (now (trail .entry)) used (ages (now (rows .entry)) cs (from .0) (to .0))) × (r ≡ used + length (ages (now (rows .entry)) cs (from .0) (to .0)))) ⌝ }
-{
-    let mut at = from;
-    let mut end = used;
-    while at.0 != to.0 {
-        lay(rows, trail, end, at);
-        end += legs_at(rows, at);
-        at = next_of(rows, at);
-    }
-    end
-}
-
-// Lays the climb from a node to one above it below a place, its first connection highest.
-fn lay_up(
-    rows: &[u16; TABLE_WORDS],
-    trail: &mut [u16; TERM_LIMIT],
-    top: usize,
-    from: NodeNo,
-    to: NodeNo,
-)
-    requires { ⌜ (length (now trail) ≡ termLimit) × (top ≤ termLimit) × Rising (now rows) (from .0) (to .0) top ⌝ }
-    ensures { λ _. ⌜ ((cs : List Connection) (n : ℕ) → Climbs cs n (now (rows .entry)) → from .0 < n → Above cs (from .0) (to .0) → now (trail .exit) ≡ splice (now (trail .entry)) (top - length (ages (now (rows .entry)) cs (from .0) (to .0))) (reverse (ages (now (rows .entry)) cs (from .0) (to .0)))) ⌝ }
-{
-    let mut at = from;
-    let mut start = top;
-    while at.0 != to.0 {
-        start -= legs_at(rows, at);
-        lay(rows, trail, start, at);
-        at = next_of(rows, at);
-    }
-}
-
-// Lays the path between two joined nodes on the trail, from `used` on: down to the right, and above that up from the left.
-fn lay_path(
-    rows: &[u16; TABLE_WORDS],
-    trail: &mut [u16; TERM_LIMIT],
-    used: usize,
-    left: NodeNo,
-    right: NodeNo,
-) -> Route
-    requires { ⌜ (length (now trail) ≡ termLimit) × Layable (now rows) used (left .0) (right .0) ⌝ }
-    ensures { λ r. ⌜ ((cs : List Connection) (n : ℕ) → Climbs cs n (now (rows .entry)) → left .0 < n → right .0 < n → LaidOut (now (rows .entry)) cs (now (trail .entry)) used (left .0) (right .0) (now (trail .exit)) (r .turn) (r .top)) ⌝ }
-{
-    let m = meet(rows, left, right);
-    match m {
-        Meeting::At(meeting) => {
-            let turn = lay_down(rows, trail, used, right, meeting);
-            let top = turn + count_legs(rows, left, meeting);
-            lay_up(rows, trail, top, left, meeting);
-            Route { turn, top }
-        }
-        // not reached: the two are joined
-        Meeting::Nowhere => Route {
-            turn: used,
-            top: used,
-        },
-    }
 }
 
 // Appends at a spot what a connection appends, walked up or down.
@@ -173,13 +50,13 @@ fn write_hop(
     trail: &mut [u16; TERM_LIMIT],
     used: usize,
     area: &mut [u16],
-    spot: Spot,
+    at: Spot,
     age: usize,
     up: bool,
 ) -> usize
     requires { ⌜ Ready (now nodes) (now conns) (now rows) (now sizes) × (age < length (now conns) / connectionWords) ⌝ }
-    requires { ⌜ Asked (now trail) (now area) spot (termWords (nodesOf (now nodes)) (startOf (connectionIn (now conns) age) up .0)) (legTerms (nodesOf (now nodes)) (now conns) age up) used ⌝ }
-    ensures { λ r. ⌜ Wrote (now (area .entry)) spot (termWords (nodesOf (now (nodes .entry))) (startOf (connectionIn (now (conns .entry)) age) up .0)) (legTerms (nodesOf (now (nodes .entry))) (now (conns .entry)) age up) (now (area .exit)) r ⌝ }
+    requires { ⌜ Asked (now trail) (now area) at (termWords (nodesOf (now nodes)) (startOf (connectionIn (now conns) age) up .0)) (legTerms (nodesOf (now nodes)) (now conns) age up) used ⌝ }
+    ensures { λ r. ⌜ Wrote (now (area .entry)) at (termWords (nodesOf (now (nodes .entry))) (startOf (connectionIn (now (conns .entry)) age) up .0)) (legTerms (nodesOf (now (nodes .entry))) (now (conns .entry)) age up) (now (area .exit)) r ⌝ }
     ensures { λ _. ⌜ Kept used (now (trail .entry)) (now (trail .exit)) ⌝ }
 {
     let c = connection_at(conns, age);
@@ -188,30 +65,11 @@ fn write_hop(
     let why = c.why;
     match why {
         Justification::Rule(rule, d) => {
-            append(
-                nodes,
-                area,
-                spot,
-                words_of(sizes, a),
-                b,
-                mark_for(d, up),
-                rule,
-            )
+            let old = words_of(sizes, a);
+            append(nodes, area, at, old, b, mark_for(d, up), rule)
         }
         Justification::Congruence => {
-            write_congruence(
-                nodes,
-                conns,
-                rows,
-                sizes,
-                trail,
-                used,
-                area,
-                spot,
-                age,
-                a,
-                b,
-            )
+            write_congruence(nodes, conns, rows, sizes, trail, used, area, at, age, a, b)
         }
     }
 }

@@ -2,7 +2,6 @@
 use borrow.Author.Needs.{needs}
 use native.Mathlib.Omega.{arith}
 use Prim.Native.Nat.{ℕ, _+_}
-use mathlib.Core.List.{List}
 use mathlib.Core.Path.{_≡_, sym, ap, _∙_}
 use lib.ListN.{length, length-append, length-replicate}
 use Rattle.model.specs.Limits.{termLimit}
@@ -10,7 +9,7 @@ use Rattle.model.specs.Term.{words}
 use Rattle.model.specs.Flat.{later}
 use Rattle.entries.specs.Nodes.{nodesOf}
 use Rattle.forest.specs.Rows.{listed}
-use Rattle.writer.specs.Legs.{termWords}
+use Rattle.writer.specs.Appends.{termWords}
 use Rattle.writer.proofs.FirstTerm.{all-written, counted, first-asked, first-long, proof-words, reached}
 use Rattle.writer.proofs.write_proof.Statement.{statement}
 use Rattle.writer.proofs.write_proof.Tie as tie

@@ -17,8 +17,8 @@ use Rattle.nodes.proofs.count_of.Reads as count-of-reads
 use Rattle.trees.proofs.append.Reads as append-reads
 use Rattle.trees.proofs.mark_for.Reads as mark-for-reads
 use Rattle.trees.proofs.words_of.Reads as words-of-reads
-use Rattle.writer.proofs.age_on.Reads as age-on-reads
-use Rattle.writer.proofs.lay_path.Reads as lay-path-reads
+use Rattle.trail.proofs.age_on.Reads as age-on-reads
+use Rattle.trail.proofs.lay_path.Reads as lay-path-reads
 use Rattle.writer.proofs.start_of.Reads as start-of-reads
 
 abbrev pub μ-write-congruence : Measures 6 write-congruence-kinds.ps ℕ

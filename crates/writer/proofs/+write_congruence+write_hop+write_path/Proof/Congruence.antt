@@ -1,23 +1,20 @@
 -- A congruence: the children are rewritten first to last, each by its own path.
-use borrow.Author.Needs.{needs}
 use native.Mathlib.Omega.{arith}
 use Prim.Native.Nat.{ℕ, _+_, _-_, _*_, _≤_, _<_}
 use mathlib.Core.List.{List, _∷_}
-use mathlib.Core.Path.{_≡_, refl, sym, ap, ap₂, subst₂, _∙_}
-use lib.ListN.{length, getD}
-use Rattle.model.specs.declared.NodeNo.{NodeNo}
+use mathlib.Core.Path.{_≡_, refl, sym, ap, subst₂, _∙_}
+use lib.ListN.{length}
 use Rattle.model.specs.Forest.{root}
-use Rattle.model.specs.Limits.{flatWords, termLimit, wordLimit}
+use Rattle.model.specs.Limits.{wordLimit}
 use Rattle.model.specs.Node.{opOf, termOf}
 use Rattle.model.specs.Tables.{childrenAt, nodeWords}
 use Rattle.model.specs.Flat.{later}
 use Rattle.terms.proofs.Rows.{one-long}
 use Rattle.entries.specs.Connections.{oldest}
-use Rattle.entries.specs.Nodes.{childIn, countIn, nodesOf}
+use Rattle.entries.specs.Nodes.{countIn, nodesOf}
 use Rattle.entries.proofs.Children.{left, left-next, left-none}
-use Rattle.costs.specs.Costs.{nodesIn}
 use Rattle.trees.specs.declared.Spot.{Spot}
-use Rattle.writer.specs.Legs.{termWords, twinTerms}
+use Rattle.writer.specs.Appends.{termWords, twinTerms}
 use Rattle.writer.specs.Written.{postOf, preOf, Kept, Reached, Wrote}
 use Rattle.writer.proofs.Begun.{accepted-nodes, leads}
 use Rattle.writer.proofs.Kept.{kept-all, kept-more}

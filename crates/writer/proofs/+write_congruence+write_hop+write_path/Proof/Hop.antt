@@ -3,7 +3,7 @@ use borrow.Author.Needs.{needs}
 use native.Mathlib.Omega.{arith}
 use Prim.Native.Nat.{ℕ, _<_}
 use mathlib.Core.Bool.{not}
-use mathlib.Core.List.{List, _++_}
+use mathlib.Core.List.{_++_}
 use mathlib.Core.Path.{_≡_, sym, ap, ap₂, subst, subst₂, _∙_}
 use lib.ListN.{length}
 use Rattle.model.specs.declared.Connection.{Connection}
@@ -16,7 +16,7 @@ use Rattle.entries.specs.Connections.{connectionIn}
 use Rattle.entries.specs.Nodes.{nodesOf}
 use Rattle.costs.specs.Costs.{nodesIn}
 use Rattle.trees.specs.Area.{around, directionOf, splice}
-use Rattle.writer.specs.Legs.{startOf, legTerms, termWords, twinTerms}
+use Rattle.writer.specs.Appends.{startOf, legTerms, termWords, twinTerms}
 use Rattle.writer.specs.Written.{postOf, preOf, Asked, Matched, Wrote}
 use Rattle.writer.proofs.Connected.{leg-rule, leg-twin, mark-word, marked-room, marked-wrote, matched, same-direction, start-in}
 use Rattle.writer.proofs.Kept.{kept-all}
@@ -73,17 +73,17 @@ module _ (t : ℕ) where
   asked : (c : lts.After-start-of2 (hop-claims t) (write-hop-at t) write-hop.Post) →
       let a = c .before .before .before .before .before .before .args in
       let ns = nodesOf (a .nodes .now) in
-      Asked (a .trail .now) (a .area .now) (a .spot) (termWords ns (c .before .start-of .result .0)) (legTerms ns (a .conns .now) (a .age) (a .up)) (a .used)
+      Asked (a .trail .now) (a .area .now) (a .at) (termWords ns (c .before .start-of .result .0)) (legTerms ns (a .conns .now) (a .age) (a .up)) (a .used)
   asked c =
       let s = c .before .before .before .before .before .before in
       let a = s .args in
       let ns = nodesOf (a .nodes .now) in
-      subst (λ (x : NodeNo). Asked (a .trail .now) (a .area .now) (a .spot) (termWords ns (x .0)) (legTerms ns (a .conns .now) (a .age) (a .up)) (a .used))
+      subst (λ (x : NodeNo). Asked (a .trail .now) (a .area .now) (a .at) (termWords ns (x .0)) (legTerms ns (a .conns .now) (a .age) (a .up)) (a .used))
       (sym (from-is c)) (s .pre .1 .1)
 
   words-of-requires : lts.Need-words-of-requires (hop-claims t) (write-hop-at t) write-hop.Post
   words-of-requires c κs =
-      let e = c .before .before .before .before in
+      let e = c .before .before .before in
       omega (arith, from-in e, e .before .before .before .before .before .before .pre .1 .0 .0 .table .stand .few)
 
   mark-for-requires : lts.Need-mark-for-requires (hop-claims t) (write-hop-at t) write-hop.Post
@@ -91,11 +91,11 @@ module _ (t : ℕ) where
 
   -- the old subterm's words
   old-is : (c : lts.After-words-of (hop-claims t) (write-hop-at t) write-hop.Post) →
-      let e = c .before .before .before .before .before in
+      let e = c .before .before .before .before in
       let a = e .before .before .before .before .before .before .args in
       c .words-of .result ≡ length (termWords (nodesOf (a .nodes .now)) (e .before .start-of .result .0))
   old-is c =
-      let e = c .before .before .before .before .before in
+      let e = c .before .before .before .before in
       let s = e .before .before .before .before .before .before in
       let k = asked e in
       c .words-of .ensures
@@ -125,7 +125,7 @@ module _ (t : ℕ) where
       let k = asked e in
       let ns = nodesOf (a .nodes .now) in
       let m = markFor (w .why .given .0 .0 .0) (w .why .given .0 .1 .0) (a .up) in
-      let old = old-is (c .before) in
+      let old = old-is (c .before .before) in
       let place = k .stood .room in
       let room = k .room in (
         (s .pre .1 .0 .0 .table, to-in e, mark-word (walked (w .why .given .0 .1 .0) (a .up)) (c .mark-for .ensures)),
@@ -134,7 +134,7 @@ module _ (t : ℕ) where
           omega (
             arith,
             marked-room ns (e .start-of2 .result .0) (k .stood) m,
-            ap (λ (f : Terms). length (around (preOf (a .area .now) (a .spot) (length (termWords ns (e .before .start-of .result .0)))) (postOf (a .area .now) (a .spot)) f)) (rule-terms w),
+            ap (λ (f : Terms). length (around (preOf (a .area .now) (a .at) (length (termWords ns (e .before .start-of .result .0)))) (postOf (a .area .now) (a .at)) f)) (rule-terms w),
           ),
         ),
       )
@@ -173,7 +173,7 @@ module _ (t : ℕ) where
             s .pre .1 .0 .0,
             subst₂ (λ (x y : NodeNo). Matched (a .nodes .now) (a .conns .now) (a .age) (x .0) (y .0)) (sym (from-is e)) (sym (to-is e)) twin,
           ),
-          subst (λ (f : Terms). Asked (a .trail .now) (a .area .now) (a .spot) (termWords (nodesOf (a .nodes .now)) (e .before .start-of .result .0)) f (a .used))
+          subst (λ (f : Terms). Asked (a .trail .now) (a .area .now) (a .at) (termWords (nodesOf (a .nodes .now)) (e .before .start-of .result .0)) f (a .used))
               (twin-terms k) (asked e),
         ),
       )
@@ -194,9 +194,9 @@ module _ (t : ℕ) where
       let after =
       p .append .ensures .1
       ∙ ap₂
-      (λ (o : ℕ) (x : Direction). splice (a .area .now) (a .spot .end) (preOf (a .area .now) (a .spot) o ++ (words (markedTerm ns (marked x r) b) ++ postOf (a .area .now) (a .spot))))
-      (old-is (p .before .before)) d in (
-        subst₂ (λ (x : NodeNo) (f : Terms). Wrote (a .area .now) (a .spot) (termWords ns (x .0)) f (p .append .last .1 .0) (p .append .result))
+      (λ (o : ℕ) (x : Direction). splice (a .area .now) (a .at .end) (preOf (a .area .now) (a .at) o ++ (words (markedTerm ns (marked x r) b) ++ postOf (a .area .now) (a .at))))
+      (old-is (p .before .before .before)) d in (
+        subst₂ (λ (x : NodeNo) (f : Terms). Wrote (a .area .now) (a .at) (termWords ns (x .0)) f (p .append .last .1 .0) (p .append .result))
             (from-is e) (sym (rule-terms w)) (marked-wrote ns b (asked e .stood) _ (p .append .ensures .0) after),
         kept-all,
       )
@@ -213,7 +213,7 @@ module _ (t : ℕ) where
       let ns = nodesOf (a .nodes .now) in (
         subst₂
             (λ (x : NodeNo) (f : Terms).
-            Wrote (a .area .now) (a .spot) (termWords ns (x .0)) f (p .write-congruence .last .1 .1 .1 .1 .1 .1 .0) (p .write-congruence .result))
+            Wrote (a .area .now) (a .at) (termWords ns (x .0)) f (p .write-congruence .last .1 .1 .1 .1 .1 .1 .0) (p .write-congruence .result))
             (from-is e) (sym (twin-terms k)) (p .write-congruence .ensures .0),
         p .write-congruence .ensures .1,
       )

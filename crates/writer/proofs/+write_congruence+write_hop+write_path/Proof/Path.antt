@@ -1,25 +1,25 @@
 -- A path: what was laid on the trail is taken from it, connection by connection.
 use native.Mathlib.Omega.{arith}
-use Prim.Native.Nat.{ℕ, _+_, _-_, _≤_, _<_}
+use Prim.Native.Nat.{ℕ, _+_, _-_}
 use mathlib.Core.Bool.{Bool}
-use mathlib.Core.List.{List, _++_, reverse}
-use mathlib.Core.Path.{_≡_, refl, sym, ap, _∙_}
+use mathlib.Core.List.{_++_, reverse}
+use mathlib.Core.Path.{_≡_, refl, _∙_}
 use lib.Dec.{leb}
 use lib.ListN.{length, getD, length-append}
-use Rattle.model.specs.Limits.{termLimit}
 use Rattle.model.specs.Flat.{later}
 use Rattle.paths.specs.Meet.{topOf}
 use Rattle.entries.specs.Connections.{oldest}
 use Rattle.entries.specs.Nodes.{nodesOf}
 use Rattle.forest.specs.Rows.{listed}
-use Rattle.writer.specs.Legs.{ages, termWords}
-use Rattle.writer.specs.Trail.{LaidOut}
+use Rattle.trail.specs.Legs.{ages}
+use Rattle.writer.specs.Appends.{termWords}
+use Rattle.trail.specs.Laid.{LaidOut}
 use Rattle.writer.specs.Written.{postOf, preOf, Kept}
 use Rattle.writer.proofs.Begun.{accepted-below, accepted-nodes, layable, path-lies, path-room, path-trip}
 use Rattle.writer.proofs.Hopping.{Begun, Hopping, Next, few, hopped, hopping-asked, hopping-next, hopping-none, next}
 use Rattle.writer.proofs.Kept.{kept-all, kept-less, kept-more, kept-splice}
 use Rattle.writer.proofs.Stands.{ran-long}
-use Rattle.writer.proofs.Trail.{length-back}
+use Rattle.trail.proofs.Lies.{length-back}
 use Rattle.writer.proofs.write_path.Reads as write-path
 use Rattle.writer.proofs.+write_congruence+write_hop+write_path.Lts-write_path as lts
 use Rattle.writer.proofs.+write_congruence+write_hop+write_path.Proof.Claims.{write-path-at, path-claims}

@@ -1,8 +1,8 @@
--- `writer::lay_up` meets its contract: what is laid and what is left make the whole climb.
+-- `trail::lay_up` meets its contract: what is laid and what is left make the whole climb.
 use native.Mathlib.Omega.{arith}
 use Prim.Native.Nat.{ℕ, _+_, _-_, _≤_, _<_}
-use mathlib.Core.List.{List, _++_, reverse}
-use mathlib.Core.Path.{_≡_, sym, ap, ap₂, _∙_}
+use mathlib.Core.List.{List, reverse}
+use mathlib.Core.Path.{_≡_, sym, ap, _∙_}
 use lib.ListN.{length, length-append}
 use Rattle.model.specs.declared.Connection.{Connection}
 use Rattle.model.specs.Limits.{nodeLimit, termLimit}
@@ -10,12 +10,12 @@ use Rattle.forest.specs.Rows.{Climbs, depthIn}
 use Rattle.costs.specs.Costs.{Above}
 use Rattle.trees.specs.Area.{splice}
 use Rattle.trees.proofs.Area.{length-splice, splice-none}
-use Rattle.writer.specs.Legs.{ages}
-use Rattle.writer.specs.Trail.{agesAt}
-use Rattle.writer.proofs.Trail.{length-back}
-use Rattle.writer.proofs.Laying.{Climb, back-one, climb-aged, climb-all, climb-falls, climb-next, climb-none, climb-room, splice-under}
-use Rattle.writer.proofs.lay_up.Statement.{statement}
-use Rattle.writer.proofs.lay_up.Tie as tie
+use Rattle.trail.specs.Legs.{ages}
+use Rattle.trail.specs.Laid.{agesAt}
+use Rattle.trail.proofs.Lies.{length-back}
+use Rattle.trail.proofs.Laying.{Climb, back-one, climb-aged, climb-all, climb-falls, climb-next, climb-none, climb-room, splice-under}
+use Rattle.trail.proofs.lay_up.Statement.{statement}
+use Rattle.trail.proofs.lay_up.Tie as tie
 
 -- what was passed lies on the trail, last to first, from `start` on
 abbrev Laid : List ℕ → ℕ → List ℕ → ℕ → List ℕ → Type 0

@@ -1,8 +1,8 @@
--- `writer::lay_path` meets its contract: the climb from the right is laid, and above it the climb from the left.
+-- `trail::lay_path` meets its contract: the climb from the right is laid, and above it the climb from the left.
 use borrow.Author.Needs.{needs}
 use native.Mathlib.Omega.{arith}
 use Prim.Native.Nat.{ℕ, _+_, _-_, _<_, _≤_}
-use mathlib.Core.List.{List, _++_, reverse}
+use mathlib.Core.List.{List, reverse}
 use mathlib.Core.Path.{_≡_, sym, ap, ap₂, _∙_}
 use lib.ListN.{length}
 use Rattle.model.specs.declared.Connection.{Connection}
@@ -13,10 +13,10 @@ use Rattle.costs.specs.Costs.{Above}
 use Rattle.costs.proofs.Climbs.{never-nowhere, two-at}
 use Rattle.trees.specs.Area.{splice}
 use Rattle.trees.proofs.Area.{length-splice, splice-more}
-use Rattle.writer.specs.Legs.{ages}
-use Rattle.writer.proofs.Laying.{laid-out, top-at}
-use Rattle.writer.proofs.lay_path.Statement.{statement}
-use Rattle.writer.proofs.lay_path.Tie as tie
+use Rattle.trail.specs.Legs.{ages}
+use Rattle.trail.proofs.Laying.{laid-out, top-at}
+use Rattle.trail.proofs.lay_path.Statement.{statement}
+use Rattle.trail.proofs.lay_path.Tie as tie
 
 meet-requires : tie.Need-meet-requires
 meet-requires c κs =

@@ -1,17 +1,17 @@
--- `writer::lay` meets its contract.
+-- `trail::lay` meets its contract.
 use borrow.Author.Needs.{needs}
 use native.Mathlib.Omega.{arith}
 use Prim.Native.Nat.{ℕ, _-_}
-use mathlib.Core.List.{List, [], _∷_}
+use mathlib.Core.List.{[], _∷_}
 use mathlib.Core.Path.{_≡_, sym, ap, _∙_}
 use lib.ListN.{length, set}
 use Rattle.forest.specs.Rows.{ageIn}
 use Rattle.trees.specs.Area.{splice}
 use Rattle.trees.proofs.Area.{splice-none, splice-one}
-use Rattle.writer.specs.Trail.{agesAt}
-use Rattle.writer.proofs.Laying.{ages-none, ages-one}
-use Rattle.writer.proofs.lay.Statement.{statement}
-use Rattle.writer.proofs.lay.Tie as tie
+use Rattle.trail.specs.Laid.{agesAt}
+use Rattle.trail.proofs.Laying.{ages-none, ages-one}
+use Rattle.trail.proofs.lay.Statement.{statement}
+use Rattle.trail.proofs.lay.Tie as tie
 
 cost-of-requires : tie.Need-cost-of-requires
 cost-of-requires c κs = search needs

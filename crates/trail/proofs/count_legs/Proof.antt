@@ -1,4 +1,4 @@
--- `writer::count_legs` meets its contract: what is counted and what is left make the whole climb.
+-- `trail::count_legs` meets its contract: what is counted and what is left make the whole climb.
 use native.Mathlib.Omega.{arith}
 use Prim.Native.Nat.{ℕ, _<_}
 use mathlib.Core.List.{List}
@@ -8,10 +8,10 @@ use Rattle.model.specs.declared.Connection.{Connection}
 use Rattle.model.specs.Limits.{nodeLimit}
 use Rattle.forest.specs.Rows.{Climbs, depthIn}
 use Rattle.costs.specs.Costs.{Above}
-use Rattle.writer.specs.Trail.{agesAt}
-use Rattle.writer.proofs.Laying.{Climb, climb-all, climb-falls, climb-next, climb-none, climb-room}
-use Rattle.writer.proofs.count_legs.Statement.{statement}
-use Rattle.writer.proofs.count_legs.Tie as tie
+use Rattle.trail.specs.Laid.{agesAt}
+use Rattle.trail.proofs.Laying.{Climb, climb-all, climb-falls, climb-next, climb-none, climb-room}
+use Rattle.trail.proofs.count_legs.Statement.{statement}
+use Rattle.trail.proofs.count_legs.Tie as tie
 
 -- as many are counted as were passed
 abbrev Counted : ℕ → List ℕ → Type 0

@@ -10,7 +10,7 @@ use Rattle.paths.specs.Meet.{topOf}
 use Rattle.forest.specs.Rows.{Climbs, ageIn, costIn}
 use Rattle.costs.specs.Costs.{Above}
 use Rattle.trees.specs.Area.{splice}
-use Rattle.writer.specs.Legs.{ages, costly}
+use Rattle.trail.specs.Legs.{ages, costly}
 
 -- the age of a node's parent connection, if that costs anything
 abbrev pub agesAt : List ℕ → ℕ → List ℕ

@@ -24,8 +24,8 @@ use Rattle.forest.proofs.Climbing.{next-in}
 use Rattle.costs.specs.Costs.{Above}
 use Rattle.trees.specs.Area.{splice, part}
 use Rattle.trees.proofs.Area.{length-part, splice-middle}
-use Rattle.writer.specs.Legs.{ages, costly}
-use Rattle.writer.specs.Trail.{agesAt, LaidOut}
+use Rattle.trail.specs.Legs.{ages, costly}
+use Rattle.trail.specs.Laid.{agesAt, LaidOut}
 
 -- a parent connection starts at its node, and its age is that of the older ones
 record Parentage (cs : List Connection) (n : ℕ) (c : Connection) (o : List Connection) : Type 0 where

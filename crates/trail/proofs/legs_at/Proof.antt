@@ -1,10 +1,10 @@
--- `writer::legs_at` meets its contract.
+-- `trail::legs_at` meets its contract.
 use borrow.Author.Needs.{needs}
-use mathlib.Core.Path.{_≡_, sym, ap, _∙_}
+use mathlib.Core.Path.{sym, ap, _∙_}
 use lib.ListN.{length}
-use Rattle.writer.proofs.Laying.{ages-none, ages-one}
-use Rattle.writer.proofs.legs_at.Statement.{statement}
-use Rattle.writer.proofs.legs_at.Tie as tie
+use Rattle.trail.proofs.Laying.{ages-none, ages-one}
+use Rattle.trail.proofs.legs_at.Statement.{statement}
+use Rattle.trail.proofs.legs_at.Tie as tie
 
 cost-of-requires : tie.Need-cost-of-requires
 cost-of-requires c κs = search needs

@@ -18,8 +18,8 @@ use Rattle.paths.proofs.Above.{walk-climb, halves}
 use Rattle.forest.specs.Rows.{costIn}
 use Rattle.trees.specs.Area.{splice}
 use Rattle.trees.proofs.Area.{splice-inside}
-use Rattle.writer.specs.Legs.{Leg, costly, legs, ages}
-use Rattle.writer.specs.Trail.{LaidOut}
+use Rattle.trail.specs.Legs.{Leg, costly, legs, ages}
+use Rattle.trail.specs.Laid.{LaidOut}
 
 -- ages as connections to be walked up, and, last to first, as those to be walked down
 abbrev upsOf : List ℕ → List Leg

@@ -1,8 +1,8 @@
--- `writer::lay_down` meets its contract: what is laid and what is left make the whole climb.
+-- `trail::lay_down` meets its contract: what is laid and what is left make the whole climb.
 use native.Mathlib.Omega.{arith}
 use native.Mathlib.Nat.{add-zero}
 use Prim.Native.Nat.{ℕ, _+_, _≤_, _<_}
-use mathlib.Core.List.{List, _++_}
+use mathlib.Core.List.{List}
 use mathlib.Core.Path.{_≡_, sym, ap, ap₂, _∙_}
 use lib.ListN.{length, length-append}
 use Rattle.model.specs.declared.Connection.{Connection}
@@ -11,10 +11,10 @@ use Rattle.forest.specs.Rows.{Climbs, depthIn}
 use Rattle.costs.specs.Costs.{Above}
 use Rattle.trees.specs.Area.{splice}
 use Rattle.trees.proofs.Area.{length-splice, splice-more, splice-none}
-use Rattle.writer.specs.Trail.{agesAt}
-use Rattle.writer.proofs.Laying.{Climb, climb-aged, climb-all, climb-falls, climb-next, climb-none, climb-room}
-use Rattle.writer.proofs.lay_down.Statement.{statement}
-use Rattle.writer.proofs.lay_down.Tie as tie
+use Rattle.trail.specs.Laid.{agesAt}
+use Rattle.trail.proofs.Laying.{Climb, climb-aged, climb-all, climb-falls, climb-next, climb-none, climb-room}
+use Rattle.trail.proofs.lay_down.Statement.{statement}
+use Rattle.trail.proofs.lay_down.Tie as tie
 
 -- what was passed lies on the trail, up to `end`
 abbrev Laid : List ℕ → ℕ → List ℕ → ℕ → List ℕ → Type 0
