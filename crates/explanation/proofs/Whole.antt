@@ -22,8 +22,6 @@ use Rattle.entries.specs.Nodes.{NodesWhole}
 use Rattle.forest.specs.Parents.{ConnectionsWhole}
 use Rattle.entries.proofs.Nodes.{nodes-whole}
 use Rattle.forest.proofs.Whole.{connections-whole}
-use Rattle.rule_table.specs.Entries.{rulesIn}
-use Rattle.rule_table.proofs.Table.{table-accepted}
 use Rattle.explanation.specs.Measure.{parentsBy}
 
 -- a table that is refused, and nothing but zeros in the table of parents
@@ -75,9 +73,8 @@ pub parts : (nws rws cws : List ℕ) (t : Tables) → judgeTables nws rws cws �
 unfolding judgeTables
 parts nws rws cws t e = parts-by nws rws cws t (nodeTable nws) refl (ruleTable rws) refl e
 
--- what the checker and climbing want of them
+-- what climbing wants of them
 pub record Whole (nws rws cws parents : List ℕ) (t : Tables) : Type 0 where
-  pub rules : rulesIn rws (length rws / 387) ≡ good (t .rules)
   pub nodes-whole : NodesWhole nws
   pub connections-whole : ConnectionsWhole nws (length nws / 10) cws parents
   pub nodes : t .nodes ≡ firstNodes (length nws / 10) nws
@@ -93,7 +90,6 @@ whole nws rws cws ps t e q =
     connections-whole nws (length nws / 10) cws ps (a .stand) (sym (ap judgementOf c))
     (q ∙ (ap parentsBy e ∙ sym (ap parentWords c))) in
     record {
-      rules = table-accepted rws (t .rules) (p .rules);
       nodes-whole = a;
       connections-whole = b;
       nodes = ns;

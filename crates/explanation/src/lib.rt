@@ -7,7 +7,6 @@ use model::Measured;
 use model::NODE_LIMIT;
 use model::NODE_WORDS;
 use model::NodeNo;
-use model::RULE_WORDS;
 use model::Verdict;
 ghost use mathlib.Core.Path.{_≡_};
 ghost use Prim.Native.Nat.{_/_};
@@ -48,7 +47,7 @@ pub fn check(nodes: &[u16], rules: &[u16], connections: &[u16], words: &[u16]) -
     if let Judgement::Faulty(number) = judged {
         return Verdict::Rejected(number, 0);
     }
-    checker::check(rules, rules.len() / RULE_WORDS, words)
+    checker::check(rules, words)
 }
 
 // The distance of two nodes of accepted tables: 8, 9, 10, or the distance.
