@@ -6,7 +6,6 @@ use model::Judgement;
 use model::Measured;
 use model::NODE_WORDS;
 use model::NodeNo;
-use model::RULE_WORDS;
 use model::Verdict;
 use model::wide;
 ghost use mathlib.Core.Path.{_≡_};
@@ -42,7 +41,7 @@ pub fn check(nodes: &[u16], rules: &[u16], connections: &[u16], words: &[u16]) -
     if let Judgement::Faulty(number) = judged {
         return Verdict::Rejected(number, 0);
     }
-    checker::check(rules, rules.len() / RULE_WORDS, words)
+    checker::check(rules, words)
 }
 
 // The distance of two nodes of accepted tables: 8, 9, 10, or the distance.
