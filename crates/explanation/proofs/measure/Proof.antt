@@ -32,8 +32,10 @@ many : (nws : List ℕ) (t : Tables) → t .nodes ≡ nodesOf nws → length (t 
 many nws t e = ap length e ∙ length-nodes (length nws / nodeWords) nws
 
 returns : tie.Need-returns
-returns c = λ t ns cs.
-    let a = c .before .before .before .before .args in
+returns c =
+    let at-start = c .before .before .before .before in
+    λ t ns cs.
+    let a = at-start .args in
     no-left t (a .left .0) (a .right .0) (omega (arith, many (a .nodes .now) t ns, c .before .wide .ensures))
 
 wide-requires-2 : tie.Need-wide-requires-2
@@ -54,11 +56,14 @@ record Inside (n l r : ℕ) : Type 0 where
 inside : (c : tie.Else2) →
     let a = c .before .before .before .before .before .before .args in
     Inside (length (a .nodes .now) / nodeWords) (a .left .0) (a .right .0)
-inside c = record { left = omega (arith, c .before .before .before .wide .ensures); right = omega (arith, c .before .wide2 .ensures) }
+inside c =
+    let at-wide = c .before .before .before in
+    record { left = omega (arith, at-wide .wide .ensures); right = omega (arith, c .before .wide2 .ensures) }
 
 fill-rows-requires : tie.Need-fill-rows-requires
 fill-rows-requires c κs =
-    let s = c .before .before .before .before .before .before .before in
+    let at-start = c .before .before .before .before .before .before .before in
+    let s = at-start in
     (rooted (s .pre), length-replicate {A = ℕ} tableWords 0)
 
 -- the rows stand for the connections
@@ -66,7 +71,8 @@ charged : (c : tie.After-fill-rows) →
     let a = c .before .before .before .before .before .before .before .before .args in
     Charged (listed (a .connections .now)) (length (a .nodes .now) / nodeWords) (c .fill-rows .last .1 .1 .0)
 charged c =
-    let s = c .before .before .before .before .before .before .before .before in
+    let at-start = c .before .before .before .before .before .before .before .before in
+    let s = at-start in
     charged-full _ (rooted (s .pre)) (length-replicate {A = ℕ} tableWords 0) (c .fill-rows .ensures)
 
 joined-requires : tie.Need-joined-requires
@@ -85,8 +91,10 @@ told c =
     c .joined .ensures _ _ (charged f .climbs) (b .left) (b .right)
 
 returns-3 : tie.Need-returns-3
-returns-3 c = λ t ns cs.
-    let e = c .before .before .before .before .before in
+returns-3 c =
+    let at-if2 = c .before .before .before .before .before in
+    λ t ns cs.
+    let e = at-if2 in
     let a = e .before .before .before .before .before .before .args in
     let m = many (a .nodes .now) t ns in
     apart t (a .left .0) (a .right .0) (omega (arith, m, inside e .left)) (omega (arith, m, inside e .right))
@@ -107,8 +115,10 @@ distance-requires c κs =
     (s .pre, (charged f, record { left-in = b .left; right-in = b .right; same = joined-root _ _ _ (same k) }))
 
 returns-4 : tie.Need-returns-4
-returns-4 c = λ t ns cs.
-    let k = c .before .before .before in
+returns-4 c =
+    let at-if3 = c .before .before .before in
+    λ t ns cs.
+    let k = at-if3 in
     let e = k .before .before .before .before .before in
     let a = e .before .before .before .before .before .before .args in
     let m = many (a .nodes .now) t ns in
@@ -116,8 +126,10 @@ returns-4 c = λ t ns cs.
     (rw (ns, cs) (omega (arith, c .before .distance .ensures .0)))
 
 returns-5 : tie.Need-returns-5
-returns-5 c = λ t ns cs.
-    let k = c .before .before .before in
+returns-5 c =
+    let at-if3 = c .before .before .before in
+    λ t ns cs.
+    let k = at-if3 in
     let e = k .before .before .before .before .before in
     let a = e .before .before .before .before .before .before .args in
     let m = many (a .nodes .now) t ns in
