@@ -49,11 +49,11 @@ count-inst σ (var x s) = ap suc (count-inst σ s)
 count-inst σ (app o k s) = ap suc (count-inst σ s)
 
 -- the first of the slots, and those behind it
-record First (i : Option Item) (r : Option (List Item)) (j : Item) (is : List Item) : Type 0 where
+record FirstSlot (i : Option Item) (r : Option (List Item)) (j : Item) (is : List Item) : Type 0 where
   here : i ≡ some j
   behind : r ≡ some is
 
-first : (i : Option Item) (r : Option (List Item)) (j : Item) (is : List Item) → itemFront i r ≡ some (j ∷ is) → First i r j is
+first : (i : Option Item) (r : Option (List Item)) (j : Item) (is : List Item) → itemFront i r ≡ some (j ∷ is) → FirstSlot i r j is
 first i r j is e =
     let f = first-item i r (j ∷ is) e in
     let joined = f .joined in

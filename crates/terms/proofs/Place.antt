@@ -5,7 +5,7 @@ use mathlib.Core.List.{List, [], _∷_, _++_, append-nil}
 use mathlib.Core.Option.{some}
 use mathlib.Core.Path.{_≡_, refl, ap, sym, _∙_}
 use native.Mathlib.Omega.{arith}
-use lib.ListN.{length, getD, take, drop, length-append, length-drop, take-append-drop}
+use lib.ListN.{length, take, drop, length-append, length-drop, take-append-drop}
 use lib.Seq.{slice, length-slice, length-take-le, take-add, take-append-seam, take-at, drop-at, drop-append-le, drop-append-seam, drop-drop}
 use Rattle.model.specs.Limits.{flatWords}
 use Rattle.model.specs.Term.{Mark, Terms, noTerms, tree, Term, one, count, join, Narrow, words, markWord, ruleWord, read}

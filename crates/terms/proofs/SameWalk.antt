@@ -8,7 +8,7 @@ use mathlib.Core.Logic.{_↔_}
 use native.Mathlib.Omega.{arith}
 use borrow.Author.Tests.{eq-eqb, eqb-true}
 use lib.Dec.{eqb}
-use lib.ListN.{length, getD}
+use lib.ListN.{length}
 use Rattle.model.specs.Limits.{flatWords}
 use Rattle.model.specs.Term.{Terms, noTerms, tree, Term, one, count, join, strip, stripped, sameOp}
 use Rattle.terms.specs.declared.TreeNode.{TreeNode}

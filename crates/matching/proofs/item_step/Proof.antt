@@ -2,7 +2,6 @@
 -- there is no other.
 -- Assumes nothing.
 use borrow.Author.Needs.{needs}
-use native.Mathlib.Omega.{arith}
 use mathlib.Core.Path.{sym, _∙_}
 use Rattle.terms.proofs.Place.{row-room as term-room, row-well}
 use Rattle.rule_table.specs.Slots.{itemAt}

@@ -1,7 +1,6 @@
 -- `rule_table::slot_at` meets its contract, by the cases of the kind.
 -- Assumes nothing.
 use borrow.Author.Needs.{needs}
-use mathlib.Core.Path.{_∙_}
 use Rattle.rule_table.proofs.Slots.{a-variable, no-variable, an-operator, no-operator, no-kind}
 use Rattle.rule_table.proofs.slot_at.Statement.{statement}
 use Rattle.rule_table.proofs.slot_at.Tie as tie
