@@ -5,3 +5,4 @@ pub mod DemandTwo
 pub mod DemandThree
 pub mod Inhabited
 pub mod Only
+pub mod Queries
