@@ -1,6 +1,7 @@
 /* Erbighenti for C: proved explanations of rewritten alert expressions.
    Tables and proofs are runs of 16-bit words, each a pointer and a length in words; their layouts are in crates/model/specs/Tables.antt and Term.antt.
-   No pointer may be null, also where the length is 0. */
+   No pointer may be null, also where the length is 0. What is lent to be written (`value`) must not overlap what is lent to be read, and
+   nobody may change the words while a call runs. */
 #ifndef ERBIGHENTI_H
 #define ERBIGHENTI_H
 #include <stddef.h>

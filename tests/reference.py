@@ -1,8 +1,6 @@
 """Document 01 once more, in Python: a second reading, against which the proved code is run. Plain and recursive where that is short; terms are walked flat."""
 import sys
-
-NODES, RULES, CHILDREN, ITEMS, VARIABLES = 2048, 256, 8, 64, 16
-DISTANCE, TERMS, WORDS = 4095, 4096, 1048576
+from scope import CHILDREN, DISTANCE, ITEMS, NODES, RULES, TERMS, VARIABLES, WORDS
 
 
 class Refused(Exception):

@@ -1,14 +1,18 @@
 // The connection table: its entries read, and judged one by one. A connection is five words: current, next, kind, rule, forward.
 // While connections are judged, a table of classes has a word for each node: the node at the top of its class.
+use model::BY_RULE_AT;
 use model::CONNECTION_WORDS;
 use model::Connection;
 use model::Direction;
+use model::FORWARD_AT;
 use model::Judgement;
 use model::Justification;
+use model::NEXT_AT;
 use model::NODE_LIMIT;
 use model::NODE_WORDS;
 use model::NodeNo;
 use model::RuleNo;
+use model::WHY_AT;
 use model::same_op;
 use model::wide;
 use model::word;
@@ -44,8 +48,8 @@ pub fn connection_at(conns: &[u16], age: usize) -> Connection
 {
     let base = age * CONNECTION_WORDS;
     let current = NodeNo(word(conns, base, 0));
-    let next = NodeNo(word(conns, base, 1));
-    match word(conns, base, 2) {
+    let next = NodeNo(word(conns, base, NEXT_AT));
+    match word(conns, base, WHY_AT) {
         0 => Connection {
             current,
             next,
@@ -55,8 +59,8 @@ pub fn connection_at(conns: &[u16], age: usize) -> Connection
             current,
             next,
             why: Justification::Rule(
-                RuleNo(word(conns, base, 3)),
-                direction_of(word(conns, base, 4)),
+                RuleNo(word(conns, base, BY_RULE_AT)),
+                direction_of(word(conns, base, FORWARD_AT)),
             ),
         },
     }
@@ -71,9 +75,9 @@ pub fn entry_whole(conns: &[u16], age: usize) -> bool
     if conns.len() < base + CONNECTION_WORDS {
         return false;
     }
-    let rule = word(conns, base, 3);
-    let forward = word(conns, base, 4);
-    match word(conns, base, 2) {
+    let rule = word(conns, base, BY_RULE_AT);
+    let forward = word(conns, base, FORWARD_AT);
+    match word(conns, base, WHY_AT) {
         0 => {
             if rule != 0 {
                 return false;

@@ -1,2 +1,5 @@
-pub mod Climbing
-pub mod Weighed
+pub mod Climbs
+pub mod Priced
+pub mod Sums
+pub mod Payable
+pub mod Only

@@ -1,23 +1,31 @@
-// Distances: the cost of each connection in the order of age, and the sum over a path, held at a cap.
-// A table of costs has a word for each connection. A cost is computed from older ones alone, each once.
+// Distances: the cost of each connection in the order of age, written into the rows, and the sum over a path, held at a cap.
+// A cost is computed from older ones alone, each once.
 use connections::connection_at;
-use forest::depth_of;
+use forest::TABLE_WORDS;
+use forest::cost_of;
+use forest::meet;
 use forest::next_of;
-use forest::parent_of;
+use forest::put_cost;
+use model::CONNECTION_WORDS;
+use model::Connection;
 use model::DISTANCE_LIMIT;
 use model::Justification;
 use model::NodeNo;
 use model::wide;
 use nodes::child_of;
 use nodes::count_of;
+use paths::Meeting;
+ghost use mathlib.Core.List.{List};
 ghost use mathlib.Core.Path.{_≡_};
-ghost use Prim.Native.Nat.{_+_, _-_, _/_, _<_, _≤_};
-ghost use lib.ListN.{length, getD};
-ghost use Rattle.model.specs.Forest.{sumPairs, dist};
-ghost use Rattle.forest.specs.Parents.{Stands};
-ghost use Rattle.entries.specs.Connections.{Supported, Twins, oldest};
-ghost use Rattle.entries.specs.Nodes.{childrenIn};
-ghost use Rattle.costs.specs.Costs.{costCap, held, costAt, filled, Filled, nodesOf, weigh, Priced, Pair};
+ghost use Prim.Native.Nat.{ℕ, _+_, _/_, _<_, _≤_};
+ghost use lib.ListN.{length};
+ghost use Rattle.model.specs.declared.Connection.{Connection};
+ghost use Rattle.model.specs.Forest.{cur, nxt, costBy, sumPairs, dist};
+ghost use Rattle.entries.specs.Connections.{Supported};
+ghost use Rattle.model.specs.Tables.{connectionWords};
+ghost use Rattle.entries.specs.Nodes.{nodesOf, childrenIn};
+ghost use Rattle.forest.specs.Rows.{Climbs, listed};
+ghost use Rattle.costs.specs.Costs.{costCap, held, priced, nodesIn, weigh, Charged, Above, Upward, Joins, Alike, Payable, Between};
 
 // The first sum past the limit: what is above is held here.
 const COST_CAP: u16 = (DISTANCE_LIMIT + 1) as u16;
@@ -31,65 +39,37 @@ fn capped(a: u16, b: u16) -> u16
     if sum < COST_CAP { sum } else { COST_CAP }
 }
 
-// What the parent connection of n costs.
-fn price(parents: &[u16], costs: &[u16], bound: usize, n: NodeNo) -> u16
-    requires { ⌜ (n .0 < length (now parents)) × (bound ≤ length (now costs)) ⌝ }
-    requires { ⌜ (0 < getD (now parents) (n .0) 0) × (getD (now parents) (n .0) 0 ≤ bound) ⌝ }
-    ensures { λ r. ⌜ r ≡ getD (now (costs .entry)) (getD (now (parents .entry)) (n .0) 0 - 1) 0 ⌝ }
+// What the climb from a node to one above it costs.
+fn climb_cost(rows: &[u16; TABLE_WORDS], from: NodeNo, to: NodeNo) -> u16
+    requires { ⌜ Upward (now rows) (from .0) (to .0) ⌝ }
+    ensures { λ r. ⌜ ((cs : List Connection) (n : ℕ) → Climbs cs n (now (rows .entry)) → from .0 < n → Above cs (from .0) (to .0) → r ≡ held (weigh (now (rows .entry)) cs (from .0) (to .0))) ⌝ }
 {
-    costs[parent_of(parents, n) - 1]
-}
-
-// The sum of the costs on the path between two nodes that the oldest connections, up to a bound, join.
-// Both ends climb by the table of all connections: the deeper one first, the left one where both are as deep.
-pub fn way(
-    parents: &[u16],
-    conns: &[u16],
-    count: usize,
-    costs: &[u16],
-    bound: usize,
-    left: NodeNo,
-    right: NodeNo,
-) -> u16
-    requires { ⌜ Stands (now parents) (now conns) count ⌝ }
-    requires { ⌜ Priced (now costs) bound ⌝ }
-    requires { ⌜ Pair (now conns) count bound (left .0) (right .0) ⌝ }
-    ensures { λ r. ⌜ r ≡ held (weigh (now (costs .entry)) (oldest bound (now (conns .entry))) (left .0) (right .0)) ⌝ }
-{
-    let mut l = left;
-    let mut r = right;
-    let mut dl = depth_of(parents, conns, count, left);
-    let mut dr = depth_of(parents, conns, count, right);
+    let mut at = from;
     let mut sum: u16 = 0;
-    while l.0 != r.0 {
-        if dl < dr {
-            sum = capped(sum, price(parents, costs, bound, r));
-            r = next_of(parents, conns, count, r);
-            dr -= 1;
-        } else {
-            sum = capped(sum, price(parents, costs, bound, l));
-            l = next_of(parents, conns, count, l);
-            dl -= 1;
-        }
+    while at.0 != to.0 {
+        sum = capped(sum, cost_of(rows, at));
+        at = next_of(rows, at);
     }
     sum
 }
 
-// What a congruence between two nodes costs: its children's distances, by the older connections.
-fn children_cost(
-    nodes: &[u16],
-    parents: &[u16],
-    conns: &[u16],
-    count: usize,
-    costs: &[u16],
-    age: usize,
-    a: NodeNo,
-    b: NodeNo,
-) -> u16
-    requires { ⌜ Stands (now parents) (now conns) count ⌝ }
-    requires { ⌜ Priced (now costs) age ⌝ }
-    requires { ⌜ (age ≤ count) × Twins (now nodes) (now conns) age (a .0) (b .0) ⌝ }
-    ensures { λ r. ⌜ r ≡ held (sumPairs (weigh (now (costs .entry)) (oldest age (now (conns .entry)))) (childrenIn (now (nodes .entry)) (a .0)) (childrenIn (now (nodes .entry)) (b .0))) ⌝ }
+// What the path between two joined nodes costs: both climbs, to where they meet.
+fn path_cost(rows: &[u16; TABLE_WORDS], left: NodeNo, right: NodeNo) -> u16
+    requires { ⌜ Joins (now rows) (left .0) (right .0) ⌝ }
+    ensures { λ r. ⌜ ((cs : List Connection) (n : ℕ) → Climbs cs n (now (rows .entry)) → left .0 < n → right .0 < n → r ≡ held (weigh (now (rows .entry)) cs (left .0) (right .0))) ⌝ }
+{
+    let m = meet(rows, left, right);
+    match m {
+        Meeting::At(top) => capped(climb_cost(rows, left, top), climb_cost(rows, right, top)),
+        // not reached: the two are joined
+        Meeting::Nowhere => COST_CAP,
+    }
+}
+
+// What a congruence between two nodes costs: its children's distances, pair by pair.
+fn children_cost(nodes: &[u16], rows: &[u16; TABLE_WORDS], a: NodeNo, b: NodeNo) -> u16
+    requires { ⌜ Alike (now nodes) (now rows) (a .0) (b .0) ⌝ }
+    ensures { λ r. ⌜ ((cs : List Connection) → Climbs cs (nodesIn (now (nodes .entry))) (now (rows .entry)) → r ≡ held (sumPairs (weigh (now (rows .entry)) cs) (childrenIn (now (nodes .entry)) (a .0)) (childrenIn (now (nodes .entry)) (b .0)))) ⌝ }
 {
     let n = count_of(nodes, a);
     let mut sum: u16 = 0;
@@ -97,76 +77,57 @@ fn children_cost(
     while i < n {
         sum = capped(
             sum,
-            way(
-                parents,
-                conns,
-                count,
-                costs,
-                age,
-                child_of(nodes, a, i),
-                child_of(nodes, b, i),
-            ),
+            path_cost(rows, child_of(nodes, a, i), child_of(nodes, b, i)),
         );
         i += 1;
     }
     sum
 }
 
-// What the connection of an age costs: 1 for a rule, for a congruence the sum of its children's distances.
-fn cost_of(
-    nodes: &[u16],
-    parents: &[u16],
-    conns: &[u16],
-    count: usize,
-    costs: &[u16],
-    age: usize,
-) -> u16
-    requires { ⌜ Stands (now parents) (now conns) count ⌝ }
-    requires { ⌜ Supported (now nodes) (length (now nodes) / 10) (now conns) count ⌝ }
-    requires { ⌜ (age < count) × (age ≤ length (now costs)) ⌝ }
-    requires { ⌜ Filled (nodesOf (now nodes)) (now conns) (now costs) age ⌝ }
-    ensures { λ r. ⌜ r ≡ held (costAt (nodesOf (now (nodes .entry))) (now (conns .entry)) age) ⌝ }
+// What a connection costs: 1 for a rule, for a congruence the sum of its children's distances.
+fn connection_cost(nodes: &[u16], rows: &[u16; TABLE_WORDS], c: Connection) -> u16
+    requires { ⌜ Payable (now nodes) (now rows) c ⌝ }
+    ensures { λ r. ⌜ ((cs : List Connection) → Climbs cs (nodesIn (now (nodes .entry))) (now (rows .entry)) → r ≡ held (costBy (nodesOf (now (nodes .entry))) (weigh (now (rows .entry)) cs) (c .why) (cur c) (nxt c))) ⌝ }
 {
-    let c = connection_at(conns, age);
     let a = c.current;
     let b = c.next;
     let why = c.why;
     match why {
         Justification::Rule(_, _) => 1,
-        Justification::Congruence => children_cost(nodes, parents, conns, count, costs, age, a, b),
+        Justification::Congruence => children_cost(nodes, rows, a, b),
     }
 }
 
-// Writes the cost of each connection, in the order of age.
-pub fn fill_costs(nodes: &[u16], parents: &[u16], conns: &[u16], count: usize, costs: &mut [u16])
-    requires { ⌜ Stands (now parents) (now conns) count ⌝ }
-    requires { ⌜ Supported (now nodes) (length (now nodes) / 10) (now conns) count ⌝ }
-    requires { ⌜ count ≤ length (now costs) ⌝ }
-    ensures { λ _. ⌜ now (costs .exit) ≡ filled (nodesOf (now (nodes .entry))) (now (conns .entry)) count (now (costs .entry)) ⌝ }
+// Writes the cost of each connection into its current node's row, in the order of age.
+fn fill_costs(nodes: &[u16], conns: &[u16], rows: &mut [u16; TABLE_WORDS])
+    requires { ⌜ Supported (now nodes) (nodesIn (now nodes)) (now conns) (length (now conns) / connectionWords) ⌝ }
+    requires { ⌜ Charged (listed (now conns)) (nodesIn (now nodes)) (now rows) ⌝ }
+    ensures { λ _. ⌜ now (rows .exit) ≡ priced (nodesOf (now (nodes .entry))) (now (conns .entry)) (length (now (conns .entry)) / connectionWords) (now (rows .entry)) ⌝ }
 {
+    let count = conns.len() / CONNECTION_WORDS;
     let mut age: usize = 0;
     while age < count {
-        costs[age] = cost_of(nodes, parents, conns, count, costs, age);
+        let c = connection_at(conns, age);
+        let cost = connection_cost(nodes, rows, c);
+        put_cost(rows, c.current, cost);
         age += 1;
     }
 }
 
-// The distance between two joined nodes, held at the cap.
+// The distance between two joined nodes, held at the cap. The rows hold the costs then.
 pub fn distance(
     nodes: &[u16],
-    parents: &[u16],
     conns: &[u16],
-    count: usize,
-    costs: &mut [u16],
+    rows: &mut [u16; TABLE_WORDS],
     left: NodeNo,
     right: NodeNo,
 ) -> usize
-    requires { ⌜ Stands (now parents) (now conns) count ⌝ }
-    requires { ⌜ Supported (now nodes) (length (now nodes) / 10) (now conns) count ⌝ }
-    requires { ⌜ (count ≤ length (now costs)) × Pair (now conns) count count (left .0) (right .0) ⌝ }
-    ensures { λ r. ⌜ r ≡ held (dist (nodesOf (now (nodes .entry))) (oldest count (now (conns .entry))) (left .0) (right .0)) ⌝ }
-    ensures { λ _. ⌜ now (costs .exit) ≡ filled (nodesOf (now (nodes .entry))) (now (conns .entry)) count (now (costs .entry)) ⌝ }
+    requires { ⌜ Supported (now nodes) (nodesIn (now nodes)) (now conns) (length (now conns) / connectionWords) ⌝ }
+    requires { ⌜ Charged (listed (now conns)) (nodesIn (now nodes)) (now rows) ⌝ }
+    requires { ⌜ Between (now nodes) (now conns) (left .0) (right .0) ⌝ }
+    ensures { λ r. ⌜ r ≡ held (dist (nodesOf (now (nodes .entry))) (listed (now (conns .entry))) (left .0) (right .0)) ⌝ }
+    ensures { λ _. ⌜ now (rows .exit) ≡ priced (nodesOf (now (nodes .entry))) (now (conns .entry)) (length (now (conns .entry)) / connectionWords) (now (rows .entry)) ⌝ }
 {
-    fill_costs(nodes, parents, conns, count, costs);
-    wide(way(parents, conns, count, costs, count, left, right))
+    fill_costs(nodes, conns, rows);
+    wide(path_cost(rows, left, right))
 }

@@ -6,7 +6,7 @@ use native.Mathlib.Omega.{arith}
 use lib.ListN.{getD, length}
 use Rattle.model.specs.Limits.{childLimit}
 use Rattle.model.specs.Node.{Node}
-use Rattle.model.specs.Tables.{nodeAt, wordsFrom, nodeWords, childrenAt, connectionWords, nextAt, whyAt, byRuleAt, forwardAt}
+use Rattle.model.specs.Tables.{nodeAt, wordsFrom, nodeWords, countAt, childrenAt, connectionWords, nextAt, whyAt, byRuleAt, forwardAt}
 use Rattle.model.specs.declared.Connection.{Connection}
 use Rattle.paths.specs.Hangs.{Accepted}
 use Rattle.entries.specs.Connections.{Supported, connectionIn, oldest}
@@ -38,7 +38,7 @@ words-same ws vs at (suc n) f =
 node-same : (ws vs : List ℕ) (n : ℕ) → countIn ws n ≤ childLimit → Front (n * nodeWords + nodeWords) ws vs → nodeAt ws n ≡ nodeAt vs n
 unfolding nodeAt
 node-same ws vs n h f =
-    let e = f (n * nodeWords + 1) (omega arith) in
+    let e = f (n * nodeWords + countAt) (omega arith) in
     ap₂ (λ (o : ℕ) (k : List ℕ). record { op = o; kids = k }) (f (n * nodeWords) (omega arith))
     (words-same ws vs (n * nodeWords + childrenAt) (countIn ws n) (λ m q. f m (omega arith)) ∙ ap (wordsFrom vs (n * nodeWords + childrenAt)) e)
 
@@ -58,9 +58,9 @@ module _ {ws : List ℕ} (vs : List ℕ) {n : ℕ} (s : NodesStand ws n) (f : Fr
       record {
         few = s .few;
         room = h;
-        narrow = λ a p. omega (arith, s .narrow a p, f (a * nodeWords + 1) (omega arith));
+        narrow = λ a p. omega (arith, s .narrow a p, f (a * nodeWords + countAt) (omega arith));
         lower = λ a i p q.
-            let e = f (a * nodeWords + 1) (omega arith) in
+            let e = f (a * nodeWords + countAt) (omega arith) in
             let b = s .narrow a p in
             omega (arith, s .lower a i p (omega arith), f (a * nodeWords + childrenAt + i) (omega arith));
       }

@@ -14,7 +14,7 @@ use lib.Seq.{getD-at}
 use Rattle.model.specs.Judged.{Judged, bad, good, judgementOf}
 use Rattle.model.specs.Limits.{childLimit, nodeLimit}
 use Rattle.model.specs.Node.{Node, addNode, allBelow, kidsOf, noNode, nodeOf, opOf}
-use Rattle.model.specs.Tables.{entries, nodeAt, nodeEntry, nodeTable, wordsFrom, nodeWords, childrenAt}
+use Rattle.model.specs.Tables.{entries, nodeAt, nodeEntry, nodeTable, wordsFrom, nodeWords, countAt, childrenAt}
 use Rattle.model.specs.declared.Judgement.the-variants.{Faulty, Taken}
 use Rattle.laws.proofs.Judging.{faulty-bad, first-bad, one-more, taken, taken-good, whole}
 use Rattle.entries.specs.Nodes.{Known, NodesStand, NodesWhole, childrenIn, countIn, firstNodes, nodesTo}
@@ -92,8 +92,8 @@ record NodeEntry (ws : List ℕ) (i : ℕ) (x : Node) : Type 0 where
 node-entry : (ws : List ℕ) (i : ℕ) (x : Node) → nodeEntry ws i ≡ some x → NodeEntry ws i x
 unfolding nodeEntry
 node-entry ws i x p =
-    let w = whole (leb (i * nodeWords + nodeWords) (length ws) && leb (getD ws (i * nodeWords + 1) 0) childLimit) (some (nodeAt ws i)) p in
-    let b = and-eq-true-iff (leb (i * nodeWords + nodeWords) (length ws)) (leb (getD ws (i * nodeWords + 1) 0) childLimit) .0 (w .0) in
+    let w = whole (leb (i * nodeWords + nodeWords) (length ws) && leb (getD ws (i * nodeWords + countAt) 0) childLimit) (some (nodeAt ws i)) p in
+    let b = and-eq-true-iff (leb (i * nodeWords + nodeWords) (length ws)) (leb (getD ws (i * nodeWords + countAt) 0) childLimit) .0 (w .0) in
     let q = w .1 in
     record { room = leb-true _ _ (b .0); narrow = leb-true _ _ (b .1); is = cc }
 

@@ -6,7 +6,7 @@ use lib.ListN.{getD, length}
 use Rattle.model.specs.Judged.{Judged, good}
 use Rattle.model.specs.Limits.{childLimit, nodeLimit}
 use Rattle.model.specs.Node.{Node, addNode}
-use Rattle.model.specs.Tables.{entries, nodeAt, nodeEntry, nodeTable, wordsFrom, nodeWords, childrenAt}
+use Rattle.model.specs.Tables.{entries, nodeAt, nodeEntry, nodeTable, wordsFrom, nodeWords, countAt, childrenAt}
 
 -- the first k nodes of a table
 unfoldable pub firstNodes : ℕ → List ℕ → List Node
@@ -20,7 +20,7 @@ nodesOf ws = firstNodes (length ws / nodeWords) ws
 
 -- how many children a node of the table has, and which
 abbrev pub countIn : List ℕ → ℕ → ℕ
-countIn ws n = getD ws (n * nodeWords + 1) 0
+countIn ws n = getD ws (n * nodeWords + countAt) 0
 
 abbrev pub childIn : List ℕ → ℕ → ℕ → ℕ
 childIn ws n i = getD ws (n * nodeWords + childrenAt + i) 0

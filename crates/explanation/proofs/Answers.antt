@@ -3,13 +3,12 @@
 -- Assumes nothing.
 use Prim.Native.Nat.{ℕ, _≤_, _<_}
 use mathlib.Core.Bool.{Bool, true, false, _||_, or-true, false≢true}
-use mathlib.Core.Path.{_≡_, refl, sym, ap, _∙_}
+use mathlib.Core.Path.{_≡_, refl, sym, _∙_}
 use mathlib.Core.Logic.{_⊎_, inl, inr, ⊎-elim, _↔_}
 use native.Mathlib.Omega.{arith}
 use borrow.Author.Tests.{leb-true, leb-false, lt-ltb, le-ltb}
 use lib.Dec.{leb, ltb}
 use lib.ListN.{length}
-use Rattle.model.specs.declared.Answer.{Answer}
 use Rattle.model.specs.declared.Answer.the-variants.{Written, Refused}
 use Rattle.model.specs.declared.Measured.the-variants.{Distance, Unmeasured}
 use Rattle.model.specs.Limits.{distanceLimit, wordLimit}
@@ -40,30 +39,30 @@ module _ (t : Tables) (l r : ℕ) where
       by true e = absurd (a (joined-linked (t .conns) l r .0 e))
       by false e = refl
 
-  unmeasured : (area n : ℕ) → Unmeasured n ≡ measure t l r → answer t area l r ≡ Refused n
+  by-number : (area n : ℕ) → Unmeasured n ≡ measure t l r → answer t area l r ≡ Refused n
   unfolding answer
-  unmeasured area n e = rw (← e) refl
+  by-number area n e = rw (← e) refl
 
-  measured : (area d : ℕ) → Distance d ≡ measure t l r
+  by-distance : (area d : ℕ) → Distance d ≡ measure t l r
       → let w = needed (t .nodes) (t .conns) l r in answer t area l r ≡ writtenIf (ltb area w || ltb wordLimit w) d w
   unfolding answer
-  measured area d e = rw (← e) refl
+  by-distance area d e = rw (← e) refl
 
   pub is-8 : (area : ℕ) → Missing t l r → answer t area l r ≡ Refused 8
-  is-8 area (inl h) = unmeasured area 8 (no-left t l r h)
+  is-8 area (inl h) = by-number area 8 (no-left t l r h)
   is-8 area (inr h) =
       ⊎-elim
-      (λ out. unmeasured area 8 (no-left t l r out))
-      (λ within. unmeasured area 8 (no-right t l r within h))
+      (λ out. by-number area 8 (no-left t l r out))
+      (λ within. by-number area 8 (no-right t l r within h))
       (order (length (t .nodes)) l)
 
   module _ (k : Known t l r) where
     pub is-9 : (area : ℕ) → Unlinked t l r → answer t area l r ≡ Refused 9
-    is-9 area a = unmeasured area 9 (apart t l r (k .left) (k .right) (parts a))
+    is-9 area a = by-number area 9 (apart t l r (k .left) (k .right) (parts a))
 
     module _ (j : Linked (t .conns) l r) where
       pub is-10 : (area : ℕ) → distanceLimit < distanceOf t l r → answer t area l r ≡ Refused 10
-      is-10 area h = unmeasured area 10 (long t l r (k .left) (k .right) (joins j) h)
+      is-10 area h = by-number area 10 (long t l r (k .left) (k .right) (joins j) h)
 
       module _ (ok : AcceptedTables t) (h : distanceOf t l r ≤ distanceLimit) (area : ℕ) where
         abbrev w : ℕ
@@ -72,7 +71,7 @@ module _ (t : Tables) (l r : ℕ) where
         distance : answer t area l r ≡ writtenIf (ltb area w || ltb wordLimit w) (distanceOf t l r) w
         distance =
             rw (delivered t ok l r j .written)
-            (measured area (distanceOf t l r) (near t l r (k .left) (k .right) (joins j) h))
+            (by-distance area (distanceOf t l r) (near t l r (k .left) (k .right) (joins j) h))
 
         pub is-11 : Exceeds t area l r → answer t area l r ≡ Refused 11
         is-11 (inl o) = distance ∙ rw (lt-ltb area w o) refl
@@ -174,3 +173,17 @@ module _ (t : Tables) (ok : AcceptedTables t) (area l r : ℕ) where
       pick (by-10 k j d) e = absurd (omega arith)
       pick (by-11 k j d o) e = (k, j, d, o)
       pick (fit a) e = absurd (omega arith)
+
+  -- and an answer is given only where none of them holds
+  pub answered : (d w : ℕ) → answer t area l r ≡ Written d w → Asked t area l r
+  answered d w e = by (cases t area l r)
+    where
+      never : (n : ℕ) → answer t area l r ≡ Refused n → ⊥
+      never n f = let z : _≡_ {A = ℕ} 0 1 = cc in omega arith
+
+      by : Case t area l r → Asked t area l r
+      by (by-8 u) = absurd (never 8 (is-8 t l r area u))
+      by (by-9 k a) = absurd (never 9 (is-9 t l r k area a))
+      by (by-10 k j d) = absurd (never 10 (is-10 t l r k j area d))
+      by (by-11 k j d o) = absurd (never 11 (is-11 t l r k j ok d area o))
+      by (fit a) = a

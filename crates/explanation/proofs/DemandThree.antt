@@ -24,6 +24,7 @@ use Rattle.explanation.proofs.Answers.{Case, by-8, by-9, by-10, by-11, 
 use Rattle.explanation.proofs.Answers as answers
 use Rattle.explanation.proofs.DemandTwo.{demand-2}
 
+-- the tables are accepted, and are t
 module _ (nws rws cws : List ℕ) (t : Tables) (are : judgeTables nws rws cws ≡ good t) (area l r : ℕ) where
   ok : AcceptedTables t
   ok = tables-accepted nws rws cws t are
@@ -43,6 +44,10 @@ module _ (nws rws cws : List ℕ) (t : Tables) (are : judgeTables nws rws cws �
         marked = d .marked;
         accepted = λ p. demand-2 nws rws cws t are (proofWords t l r) (suc (distanceOf t l r)) .1 (d .proves p (a .near) (a .few));
       }
+
+  -- an answer is given only then
+  pub answered : (d w : ℕ) → answerBy (judgeTables nws rws cws) area l r ≡ Written d w → Asked t area l r
+  answered d w e = answers.answered t ok area l r d w (rw are at e)
 
   pub refused-8 : (answerBy (judgeTables nws rws cws) area l r ≡ Refused 8) ↔ Missing t l r
   refused-8 = rw are (answers.refused-8 t ok area l r)

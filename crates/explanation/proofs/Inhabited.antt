@@ -1,10 +1,10 @@
 -- Demand 3 is not empty: the tables of document 01's run (P1), as words, with a witness of the premise; the query 2, 3 over an area of
 -- twenty words is answered, and the checker accepts what it delivers.
-use Prim.Native.Nat.{ℕ}
+use Prim.Native.Nat.{ℕ, _-_}
 use mathlib.Core.List.{List, [], _∷_, _++_, List·Memᴰ·head}
 use mathlib.Core.Path.{_≡_, refl}
 use native.Mathlib.Omega.{arith}
-use lib.ListN.{replicate}
+use lib.ListN.{length, replicate}
 use Rattle.model.specs.declared.Answer.the-variants.{Written}
 use Rattle.model.specs.declared.Direction.the-variants.{Forward}
 use Rattle.model.specs.declared.Justification.the-variants.{Rule as byRule, Congruence}
@@ -18,19 +18,23 @@ use Rattle.model.specs.Forest.{by, dist}
 use Rattle.model.specs.Flat.{flatProof}
 use Rattle.model.specs.Premise.{Premise}
 use Rattle.model.specs.Query.{Tables}
-use Rattle.model.specs.Tables.{judgeTables, answerBy, areaOf, verdictBy}
+use Rattle.model.specs.Tables.{judgeTables, answerBy, areaOf, verdictBy, nodeWords, sideWords}
 use Rattle.explanation.specs.Demand.{Asked, Granted}
 use Rattle.explanation.proofs.DemandThree.{demand-3}
 
--- Node 0 is the leaf o1, 1 the leaf o2, 2 is (o3 o1), 3 is (o3 o2): operator, count, eight slots.
+-- words, and zeros behind them up to a size
+abbrev entry : ℕ → List ℕ → List ℕ
+entry size ws = ws ++ replicate (size - length ws) 0
+
+-- Node 0 is the leaf o1, 1 the leaf o2, 2 is (o3 o1), 3 is (o3 o2): operator, count, children.
 nodes : List ℕ
 nodes =
-    (1 ∷ 0 ∷ replicate 8 0) ++ ((2 ∷ 0 ∷ replicate 8 0)
-    ++ ((3 ∷ 1 ∷ 0 ∷ replicate 7 0) ++ (3 ∷ 1 ∷ 1 ∷ replicate 7 0)))
+    entry nodeWords (1 ∷ 0 ∷ []) ++ (entry nodeWords (2 ∷ 0 ∷ [])
+    ++ (entry nodeWords (3 ∷ 1 ∷ 0 ∷ []) ++ entry nodeWords (3 ∷ 1 ∷ 1 ∷ [])))
 
 -- Rule r7 makes o1 to o2: number, one item a side, and each side's item and zeros behind it.
 rules : List ℕ
-rules = 7 ∷ 1 ∷ 1 ∷ ((1 ∷ 1 ∷ 0 ∷ replicate 189 0) ++ (1 ∷ 2 ∷ 0 ∷ replicate 189 0))
+rules = 7 ∷ 1 ∷ 1 ∷ (entry sideWords (1 ∷ 1 ∷ 0 ∷ []) ++ entry sideWords (1 ∷ 2 ∷ 0 ∷ []))
 
 -- 0 to 1 by r7, forward, and 2 to 3 by congruence
 connections : List ℕ

@@ -1,6 +1,6 @@
 -- Tables handed in whole: what the three judgements come to together, and what accepted tables are.
 -- Assumes nothing.
-use Prim.Native.Nat.{ℕ, _/_}
+use Prim.Native.Nat.{ℕ, _+_, _-_, _/_}
 use mathlib.Core.List.{List}
 use mathlib.Core.Path.{_≡_, refl, sym, _∙_, ap, subst}
 use native.Mathlib.Omega.{arith}
@@ -13,18 +13,16 @@ use Rattle.model.specs.Judged.{Judged, good, bad, judgementOf}
 use Rattle.model.specs.Rule.{Rule}
 use Rattle.model.specs.Node.{Node}
 use Rattle.model.specs.Query.{Tables}
-use Rattle.model.specs.Tables.{nodeTable, ruleTable, connectionTable, withNodes, withConnections, judgeTables, measureBy, verdictBy}
-use Rattle.entries.specs.Nodes.{firstNodes}
-use Rattle.entries.specs.Connections.{oldest}
-use Rattle.forest.specs.Parents.{parentWords}
+use Rattle.model.specs.Tables.{nodeWords, connectionWords, nodeTable, ruleTable, connectionTable, withNodes, withConnections, judgeTables, measureBy, verdictBy}
 use Rattle.laws.proofs.Judging.{taken-good, faulty-bad}
-use Rattle.entries.specs.Nodes.{NodesWhole}
-use Rattle.forest.specs.Parents.{ConnectionsWhole}
+use Rattle.paths.specs.Hangs.{Accepted}
+use Rattle.entries.specs.Nodes.{NodesWhole, nodesOf}
+use Rattle.entries.specs.Connections.{Supported, oldest}
 use Rattle.entries.proofs.Nodes.{nodes-whole}
-use Rattle.forest.proofs.Whole.{connections-whole}
-use Rattle.explanation.specs.Measure.{parentsBy}
+use Rattle.entries.proofs.Connections.{connections}
+use Rattle.forest.specs.Rows.{listed}
 
--- a table that is refused, and nothing but zeros in the table of parents
+-- a table that is refused
 module _ (nws rws cws : List ℕ) where
   pub bad-nodes : (n : ℕ) → Faulty n ≡ judgementOf (nodeTable nws) → judgeTables nws rws cws ≡ bad n
   unfolding judgeTables
@@ -34,22 +32,17 @@ module _ (nws rws cws : List ℕ) where
   unfolding judgeTables
   bad-rules a n e = rw (a .is, faulty-bad (ruleTable rws) n e)
 
--- nodes and rules are accepted: the connections decide, and leave their parents
-pub record Decides (j : Judged (List Connection)) (t : Judged Tables) : Type 0 where
-  pub judged : judgementOf j ≡ judgementOf t
-  pub parents : parentWords j ≡ parentsBy t
-
-last : (ns : List Node) (rs : List Rule) (j : Judged (List Connection)) → Decides j (withConnections ns rs j)
-last ns rs (good cs) = record { judged = refl; parents = refl }
-last ns rs (bad n) = record { judged = refl; parents = refl }
+-- nodes and rules are accepted: the connections decide
+last : (ns : List Node) (rs : List Rule) (j : Judged (List Connection)) → judgementOf j ≡ judgementOf (withConnections ns rs j)
+last ns rs (good cs) = refl
+last ns rs (bad n) = refl
 
 pub connections-decide : (nws rws cws : List ℕ) → NodesWhole nws → Taken ≡ judgementOf (ruleTable rws)
-    → Decides (connectionTable (firstNodes (length nws / 10) nws) cws) (judgeTables nws rws cws)
+    → judgementOf (connectionTable (nodesOf nws) cws) ≡ judgementOf (judgeTables nws rws cws)
 unfolding judgeTables
 connections-decide nws rws cws a b =
     let g = taken-good (ruleTable rws) b in
-    let ns = firstNodes (length nws / 10) nws in
-    rw (a .is, g .is) (last ns (g .what) (connectionTable ns cws))
+    rw (a .is, g .is) (last (nodesOf nws) (g .what) (connectionTable (nodesOf nws) cws))
 
 -- the parts of accepted tables
 pub record Parts (nws rws cws : List ℕ) (t : Tables) : Type 0 where
@@ -74,26 +67,25 @@ unfolding judgeTables
 parts nws rws cws t e = parts-by nws rws cws t (nodeTable nws) refl (ruleTable rws) refl e
 
 -- what climbing wants of them
-pub record Whole (nws rws cws parents : List ℕ) (t : Tables) : Type 0 where
-  pub nodes-whole : NodesWhole nws
-  pub connections-whole : ConnectionsWhole nws (length nws / 10) cws parents
-  pub nodes : t .nodes ≡ firstNodes (length nws / 10) nws
-  pub conns : t .conns ≡ oldest (length cws / 5) cws
+pub record Whole (nws rws cws : List ℕ) (t : Tables) : Type 0 where
+  pub support : Supported nws (length nws / nodeWords) cws (length cws / connectionWords)
+  pub nodes : t .nodes ≡ nodesOf nws
+  pub conns : t .conns ≡ listed cws
 
-pub whole : (nws rws cws ps : List ℕ) (t : Tables) → judgeTables nws rws cws ≡ good t → ps ≡ parentsBy (judgeTables nws rws cws) → Whole nws rws cws ps t
-whole nws rws cws ps t e q =
+pub whole : (nws rws cws : List ℕ) (t : Tables) → judgeTables nws rws cws ≡ good t → Whole nws rws cws t
+unfolding connectionTable
+whole nws rws cws t e =
     let p = parts nws rws cws t e in
     let a = nodes-whole nws (sym (ap judgementOf (p .nodes))) in
-    let ns : t .nodes ≡ firstNodes (length nws / 10) nws = (let x = a .is in let y = p .nodes in cc) in
-    let c : connectionTable (firstNodes (length nws / 10) nws) cws ≡ good (t .conns) = rw ns at (p .conns) in
-    let b =
-    connections-whole nws (length nws / 10) cws ps (a .stand) (sym (ap judgementOf c))
-    (q ∙ (ap parentsBy e ∙ sym (ap parentWords c))) in
+    let ns : t .nodes ≡ nodesOf nws = (let x = a .is in let y = p .nodes in cc) in
+    let c : connectionTable (nodesOf nws) cws ≡ good (t .conns) = rw ns at (p .conns) in
+    let k = (length cws + (connectionWords - 1)) / connectionWords in
+    let b = connections (nodesOf nws) cws k (t .conns) c in
+    let q : k ≡ length cws / connectionWords = omega (arith, b .room) in
     record {
-      nodes-whole = a;
-      connections-whole = b;
+      support = record { table = a .stand; accepted = subst (λ (m : ℕ). Accepted (nodesOf nws) (oldest m cws)) q (b .accepted) };
       nodes = ns;
-      conns = (let x = b .is in cc);
+      conns = b .is ∙ ap (λ (m : ℕ). oldest m cws) q;
     }
 
 -- answers over tables that are refused

@@ -1,23 +1,14 @@
--- The distance of a pair over the words of accepted tables, and what judging leaves in the lent table of parents.
+-- The distance of a pair over the words of accepted tables.
 -- Assumes nothing.
-use Prim.Native.Nat.{ℕ, _/_}
+use Prim.Native.Nat.{ℕ}
 use mathlib.Core.List.{List}
 use mathlib.Core.Path.{_≡_}
-use lib.ListN.{length, replicate}
 use Rattle.model.specs.declared.Measured.{Measured}
-use Rattle.model.specs.Limits.{nodeLimit}
-use Rattle.model.specs.Judged.{Judged, good, bad}
 use Rattle.model.specs.Query.{Tables, measure}
-use Rattle.entries.specs.Nodes.{firstNodes}
-use Rattle.entries.specs.Connections.{oldest}
-use Rattle.forest.specs.Parents.{agesOf}
+use Rattle.entries.specs.Nodes.{nodesOf}
+use Rattle.forest.specs.Rows.{listed}
 
 -- what is measured, over the words of accepted tables
 abbrev pub Measures : List ℕ → List ℕ → ℕ → ℕ → Measured → Type 0
 Measures nws cws l r m =
-    (t : Tables) → t .nodes ≡ firstNodes (length nws / 10) nws → t .conns ≡ oldest (length cws / 5) cws → m ≡ measure t l r
-
--- what judging leaves in the lent table of parents: the accepted connections' ages, or nothing but zeros
-abbrev pub parentsBy : Judged Tables → List ℕ
-parentsBy (bad n) = replicate nodeLimit 0
-parentsBy (good t) = agesOf (t .conns) nodeLimit
+    (t : Tables) → t .nodes ≡ nodesOf nws → t .conns ≡ listed cws → m ≡ measure t l r

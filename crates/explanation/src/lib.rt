@@ -1,31 +1,26 @@
 // The face: entry points over tables handed in whole. They take any words, end, and refuse by document 01's numbers.
 // The tables are u16 words: a node is 10, a rule 387, a connection 5 (their layouts are in crate model, specs/Tables.antt).
-use model::CONNECTION_WORDS;
+use forest::TABLE_WORDS;
 use model::DISTANCE_LIMIT;
 use model::Judgement;
 use model::Measured;
-use model::NODE_LIMIT;
 use model::NODE_WORDS;
 use model::NodeNo;
 use model::Verdict;
+use model::wide;
 ghost use mathlib.Core.Path.{_≡_};
 ghost use Prim.Native.Nat.{_/_};
-ghost use lib.ListN.{length, replicate};
-ghost use Rattle.model.specs.Limits.{nodeLimit};
+ghost use lib.ListN.{length};
 ghost use Rattle.model.specs.Judged.{judgementOf};
 ghost use Rattle.model.specs.Query.{measureReport};
-ghost use Rattle.model.specs.Tables.{judgeTables, measureBy, verdictBy};
+ghost use Rattle.model.specs.Tables.{nodeWords, connectionWords, judgeTables, measureBy, verdictBy};
 ghost use Rattle.model.specs.Verdict.{reportOf};
-ghost use Rattle.entries.specs.Nodes.{NodesWhole};
-ghost use Rattle.forest.specs.Parents.{ConnectionsWhole};
-ghost use Rattle.explanation.specs.Measure.{Measures, parentsBy};
+ghost use Rattle.entries.specs.Connections.{Supported};
+ghost use Rattle.explanation.specs.Measure.{Measures};
 
-// Tables handed in whole are judged before all else: nodes, rules, connections; the first bad entry decides. The table of
-// parents, lent full of zeros, holds what climbing wants of accepted connections.
-fn judge_tables(nodes: &[u16], rules: &[u16], connections: &[u16], parents: &mut [u16]) -> Judgement
-    requires { ⌜ now parents ≡ replicate nodeLimit 0 ⌝ }
+// Tables handed in whole are judged before all else: nodes, rules, connections; the first bad entry decides.
+fn judge_tables(nodes: &[u16], rules: &[u16], connections: &[u16]) -> Judgement
     ensures { λ r. ⌜ r ≡ judgementOf (judgeTables (now (nodes .entry)) (now (rules .entry)) (now (connections .entry))) ⌝ }
-    ensures { λ _. ⌜ now (parents .exit) ≡ parentsBy (judgeTables (now (nodes .entry)) (now (rules .entry)) (now (connections .entry))) ⌝ }
 {
     let a = nodes::judge_nodes(nodes);
     if let Judgement::Faulty(number) = a {
@@ -35,15 +30,14 @@ fn judge_tables(nodes: &[u16], rules: &[u16], connections: &[u16], parents: &mut
     if let Judgement::Faulty(number) = b {
         return Judgement::Faulty(number);
     }
-    forest::judge_connections(nodes, nodes.len() / NODE_WORDS, connections, parents)
+    connections::judge_connections(nodes, connections)
 }
 
 // The strict checker over tables handed in whole and any words: how many terms were accepted, or the refusal and its place.
 pub fn check(nodes: &[u16], rules: &[u16], connections: &[u16], words: &[u16]) -> Verdict
     ensures { λ r. ⌜ r ≡ verdictBy (judgeTables (now (nodes .entry)) (now (rules .entry)) (now (connections .entry))) (now (words .entry)) ⌝ }
 {
-    let mut parents = [0u16; NODE_LIMIT];
-    let judged = judge_tables(nodes, rules, connections, &mut parents);
+    let judged = judge_tables(nodes, rules, connections);
     if let Judgement::Faulty(number) = judged {
         return Verdict::Rejected(number, 0);
     }
@@ -51,30 +45,23 @@ pub fn check(nodes: &[u16], rules: &[u16], connections: &[u16], words: &[u16]) -
 }
 
 // The distance of two nodes of accepted tables: 8, 9, 10, or the distance.
-fn measure(
-    nodes: &[u16],
-    parents: &[u16],
-    connections: &[u16],
-    left: NodeNo,
-    right: NodeNo,
-) -> Measured
-    requires { ⌜ NodesWhole (now nodes) ⌝ }
-    requires { ⌜ ConnectionsWhole (now nodes) (length (now nodes) / 10) (now connections) (now parents) ⌝ }
+fn measure(nodes: &[u16], connections: &[u16], left: NodeNo, right: NodeNo) -> Measured
+    requires { ⌜ Supported (now nodes) (length (now nodes) / nodeWords) (now connections) (length (now connections) / connectionWords) ⌝ }
     ensures { λ r. ⌜ Measures (now (nodes .entry)) (now (connections .entry)) (left .0) (right .0) r ⌝ }
 {
     let n = nodes.len() / NODE_WORDS;
-    if n <= model::wide(left.0) {
+    if n <= wide(left.0) {
         return Measured::Unmeasured(8);
     }
-    if n <= model::wide(right.0) {
+    if n <= wide(right.0) {
         return Measured::Unmeasured(8);
     }
-    let count = connections.len() / CONNECTION_WORDS;
-    if !forest::linked(parents, connections, count, left, right) {
+    let mut rows = [0u16; TABLE_WORDS];
+    forest::fill_rows(connections, n, &mut rows);
+    if !forest::joined(&rows, left, right) {
         return Measured::Unmeasured(9);
     }
-    let mut costs = [0u16; NODE_LIMIT];
-    let d = costs::distance(nodes, parents, connections, count, &mut costs, left, right);
+    let d = costs::distance(nodes, connections, &mut rows, left, right);
     if d > DISTANCE_LIMIT {
         return Measured::Unmeasured(10);
     }
@@ -91,12 +78,11 @@ pub fn distance(
 ) -> Measured
     ensures { λ r. ⌜ r ≡ measureBy (judgeTables (now (nodes .entry)) (now (rules .entry)) (now (connections .entry))) (left .0) (right .0) ⌝ }
 {
-    let mut parents = [0u16; NODE_LIMIT];
-    let judged = judge_tables(nodes, rules, connections, &mut parents);
+    let judged = judge_tables(nodes, rules, connections);
     if let Judgement::Faulty(number) = judged {
         return Measured::Unmeasured(number);
     }
-    measure(nodes, &parents, connections, left, right)
+    measure(nodes, connections, left, right)
 }
 
 // The same for C: the number is returned (0 for success), the count of terms or the place stands behind `value`.

@@ -1,6 +1,6 @@
 pub mod Ages
-pub mod Judging
-pub mod Built
-pub mod Cleared
-pub mod Whole
 pub mod Older
+pub mod Filled
+pub mod Climbing
+pub mod Rooted
+pub mod Only

@@ -1,23 +1,17 @@
--- A climb between nodes that older connections join, by the table of all connections.
--- A congruence asks for older paths, and there is one table of parents: an older parent connection is still the node's.
-use Prim.Native.Nat.{ℕ, zero, suc, _+_, _-_, _≤_, _<_}
+-- Older connections among all of them: a congruence asks for older paths, and there is one table to climb by.
+-- An older parent connection is still the node's, and nodes that older connections join are walked between by those alone.
+use Prim.Native.Nat.{ℕ, zero, suc, _+_, _≤_, _<_}
 use mathlib.Core.Path.{_≡_, refl, sym, ap, _∙_}
-use mathlib.Core.Bool.{Bool, true, false}
+use mathlib.Core.Bool.{Bool}
 use mathlib.Core.List.{List}
-use mathlib.Core.Logic.{⊎-elim}
 use native.Mathlib.Omega.{arith}
 use native.Mathlib.Decide.{ℕ-discrete}
-use lib.ListN.{length, getD}
-use Rattle.model.specs.Limits.{nodeLimit}
 use Rattle.model.specs.declared.Connection.{Connection}
-use Rattle.model.specs.Forest.{nxt, root, walk, below, parentOf}
+use Rattle.model.specs.Forest.{cur, root, walk, below, parentOf, top}
 use Rattle.paths.specs.Hangs.{nextOf, depth, Forest}
 use Rattle.entries.specs.Connections.{connectionIn, oldest}
-use Rattle.forest.specs.Parents.{Stands}
-use Rattle.paths.proofs.Laws.{parent-old, parent-case, no-parent, depth-below, depth-old, root-below, root-old, depth-zero, climb-left, climb-right}
+use Rattle.paths.proofs.Laws.{parent-new, parent-old, no-parent, depth-old, root-old, walk-old}
 use Rattle.paths.proofs.Places.{Place, high, low, place, next-below}
-use Rattle.forest.proofs.Ages.{aged, age-top}
-use Rattle.entries.proofs.Connections.{length-oldest}
 use Rattle.paths.proofs.Ways.{climbBy}
 
 -- the older connections are a forest, and a node that has a parent among them keeps it
@@ -56,99 +50,37 @@ kept k (suc m) ws l r h p =
           }
     ]
 
--- a parent connection is one of those listed
-pub within : (k : ℕ) (ws : List ℕ) (n : ℕ) {c : Connection} {o : List Connection} → parentOf (oldest k ws) n ≡ below c o → length o < k
-unfolding oldest parentOf
-within zero ws n p = absurd (no-parent p)
-within (suc k) ws n p =
-    ⊎-elim
-    (λ w. omega (arith, ap length (w .rest), length-oldest k ws))
-    (λ w. omega (arith, within k ws n (w .from)))
-    (parent-case (connectionIn ws k) (oldest k ws) n p)
+-- no connection starts where an older one does
+pub starts-apart : (count a b : ℕ) (ws : List ℕ) → Forest (oldest count ws) → a < count → b < a →
+    cur (connectionIn ws b) ≡ cur (connectionIn ws a) → ⊥
+unfolding oldest
+starts-apart count a b ws f p q e =
+    has-parent a b ws q (ap (parentOf (oldest a ws)) e ∙ forest-older (suc a) count ws (omega arith) f .0 .free)
+  where
+    has-parent : (a b : ℕ) (ws : List ℕ) → b < a → parentOf (oldest a ws) (cur (connectionIn ws b)) ≡ top → ⊥
+    has-parent zero b ws q = absurd (omega arith)
+    has-parent (suc a) b ws q =
+        let c = connectionIn ws a in
+        let n = cur (connectionIn ws b) in
+        elim (ℕ-discrete n (cur c)) [
+          | yes e ↦ λ t. no-parent (sym t ∙ parent-new c (oldest a ws) n e)
+          | no e ↦ λ t.
+              has-parent a b ws (elim (ℕ-discrete b a) [ yes y ↦ absurd (e (ap (λ (x : ℕ). cur (connectionIn ws x)) y)) | no y ↦ omega arith ])
+              (sym (parent-old c (oldest a ws) n e) ∙ t)
+        ]
 
--- one step of the deeper of two nodes that older connections join
-pub record Onward (ps ws : List ℕ) (count bound n : ℕ) : Type 0 where
-  pub some : 0 < getD ps n 0
-  pub age : getD ps n 0 ≤ bound
-  pub deep : 0 < depth (oldest count ws) n
-  pub near : root (oldest bound ws) (nextOf (oldest count ws) n) ≡ root (oldest bound ws) n
-
-module _ {ps ws : List ℕ} {count bound : ℕ} (s : Stands ps ws count) (h : bound ≤ count) where
-  -- the older connections, and all of them
-  abbrev cs : List Connection
-  cs = oldest bound ws
-
-  abbrev all : List Connection
-  all = oldest count ws
-
-  hung : Forest (oldest bound ws)
-  hung = forest-older bound count ws h (s .forest)
-
-  -- the deeper of two nodes has a parent among the older connections
-  pub record Hanging (n : ℕ) : Type 0 where
-    pub by : parentOf cs n ≡ below (connectionIn ws (getD ps n 0 - 1)) (oldest (getD ps n 0 - 1) ws)
-    pub next : nextOf all n ≡ nxt (connectionIn ws (getD ps n 0 - 1))
-    pub onward : Onward ps ws count bound n
-
-  pub hanging : (n m : ℕ) → n < nodeLimit → root cs n ≡ root cs m → depth all m ≤ depth all n → (n ≡ m → ⊥) → Hanging n
-  hanging n m small j d e = go (place cs n hung)
-    where
-      go : Place cs n → Hanging n
-      go (high p q) = absurd (e (sym p ∙ j ∙ depth-zero cs m hung (omega (arith, kept bound count ws n m h j .deeper))))
-      go (low c o p q t) =
-          let up = stays bound count ws n h (s .forest) p in
-          let z : getD ps n 0 ≡ 0 → ⊥ = λ y. no-parent (sym (age-top all n (sym (s .agree n small) ∙ y)) ∙ up) in
-          let g = aged s small z .by in
-          let co : c ≡ connectionIn ws (getD ps n 0 - 1) = cc in
-          let oo : o ≡ oldest (getD ps n 0 - 1) ws = cc in
-          let w = within bound ws n p in
-          let nx : nextOf all n ≡ nxt (connectionIn ws (getD ps n 0 - 1)) = next-below all n g in
-          record {
-            by = p ∙ cc;
-            next = nx;
-            onward = record {
-              some = omega arith;
-              age = omega (arith, ap length oo, length-oldest (getD ps n 0 - 1) ws);
-              deep = omega (arith, depth-below all n (s .forest) up);
-              near = ap (root cs) nx ∙ ap (λ (x : Connection). root cs (nxt x)) (sym co) ∙ sym (root-below cs n hung p);
-            };
-          }
-
-  module _ (l r : ℕ) (j : root cs l ≡ root cs r) (e : l ≡ r → ⊥) where
-    pub left-onward : l < nodeLimit → depth all r ≤ depth all l → Onward ps ws count bound l
-    left-onward small d = hanging l r small j d e .onward
-
-    pub right-onward : r < nodeLimit → depth all l ≤ depth all r → Onward ps ws count bound r
-    right-onward small d = hanging r l small (sym j) d (λ q. e (sym q)) .onward
-
-    -- the walk over the older connections, step by step up the table of all of them
-    module _
-        {A : Type 0}
-        (u : A)
-        (_·_ : A → A → A)
-        (step : List Connection → (ℕ → ℕ → A) → Connection → Bool → A)
-        (assoc : (a b c : A) → _·_ (_·_ a b) c ≡ _·_ a (_·_ b c))
-        (unit-l : (a : A) → _·_ u a ≡ a)
-        (unit-r : (a : A) → _·_ a u ≡ a) where
-      -- the parent connection of a node, by its age, walked up or down
-      abbrev pub hopAt : ℕ → Bool → A
-      hopAt n up =
-          let a = getD ps n 0 - 1 in
-          step (oldest a ws) (walk u _·_ step (oldest a ws)) (connectionIn ws a) up
-
-      pub left-walk : l < nodeLimit → depth all r ≤ depth all l →
-          walk u _·_ step cs l r ≡ _·_ (hopAt l true) (walk u _·_ step cs (nextOf all l) r)
-      left-walk small d =
-          let g = hanging l r small j d e in
-          climb-left u _·_ step assoc unit-l unit-r cs l r hung (g .by) j (omega (arith, kept bound count ws l r h j .deeper)) e
-          ∙ ap (λ (m : ℕ). _·_ (hopAt l true) (walk u _·_ step cs m r)) (sym (g .next))
-
-      pub right-walk : r < nodeLimit → depth all l ≤ depth all r →
-          walk u _·_ step cs l r ≡ _·_ (walk u _·_ step cs l (nextOf all r)) (hopAt r false)
-      right-walk small d =
-          let g = hanging r l small (sym j) d (λ q. e (sym q)) in
-          climb-right u _·_ step assoc unit-l unit-r cs l r hung (g .by) j (omega (arith, kept bound count ws l r h j .deeper)) e
-          ∙ ap (λ (m : ℕ). _·_ (walk u _·_ step cs l m) (hopAt r false)) (sym (g .next))
+-- the walk between nodes that older connections join is theirs
+pub walk-older : {A : Type 0} (e : A) (_·_ : A → A → A) (step : List Connection → (ℕ → ℕ → A) → Connection → Bool → A) (k m : ℕ) (ws : List ℕ)
+    (l r : ℕ) → k ≤ m → root (oldest k ws) l ≡ root (oldest k ws) r → walk e _·_ step (oldest m ws) l r ≡ walk e _·_ step (oldest k ws) l r
+unfolding oldest
+walk-older e _·_ step k zero ws l r h j = let z : k ≡ 0 = omega arith in rw z refl
+walk-older e _·_ step k (suc m) ws l r h j =
+    elim (ℕ-discrete k (suc m)) [
+      | yes z ↦ rw z refl
+      | no z ↦
+          walk-old e _·_ step (connectionIn ws m) (oldest m ws) l r (kept k m ws l r (omega arith) j .joins)
+          ∙ walk-older e _·_ step k m ws l r (omega arith) j
+    ]
 
 -- a climb by older connections is a climb by all of them
 pub climb-kept : (i k m : ℕ) (ws : List ℕ) (n : ℕ) → k ≤ m → Forest (oldest m ws) → i ≤ depth (oldest k ws) n →

@@ -1,254 +1,217 @@
-// Connections and the nodes they join: the tables judged, and where two climbs meet.
-// Tables are lent as words, a node 10 and a connection 5. A table of parents has a word for each node: the age of its
-// parent connection, and 1, or 0 where it has none.
+// The connections climbed: a row for each node, all that a climb reads of it, and where two climbs meet.
+// A row is four words: where the node's parent connection leads, the age of that connection and 1, what it costs, and the node's depth
+// and 1. A node without a parent leads to itself, has age 0 and cost 0.
 use connections::connection_at;
-use connections::entry_whole;
 use model::CONNECTION_WORDS;
 use model::Connection;
-use model::Judgement;
-use model::Justification;
+use model::NODE_LIMIT;
 use model::NodeNo;
-use model::same_op;
 use model::wide;
-use model::word;
-use nodes::child_of;
-use nodes::count_of;
-use nodes::operator_of;
 use paths::Meeting;
+ghost use mathlib.Core.List.{List, [], _++_};
 ghost use mathlib.Core.Path.{_≡_};
-ghost use Prim.Native.Nat.{_+_, _*_, _<_, _≤_};
-ghost use lib.ListN.{length, getD, set, replicate};
-ghost use mathlib.Core.Option.{some};
+ghost use Prim.Native.Nat.{ℕ, suc, _+_, _*_, _<_, _≤_};
+ghost use lib.ListN.{length, getD, set, drop};
+ghost use Rattle.model.specs.declared.Connection.{Connection};
 ghost use Rattle.model.specs.Limits.{nodeLimit};
-ghost use Rattle.model.specs.Judged.{judgementOf};
-ghost use Rattle.model.specs.Forest.{joined};
-ghost use Rattle.model.specs.Connect.{pairsJoined, addConnection};
-ghost use Rattle.model.specs.Tables.{connectionEntry, connectionTable};
-ghost use Rattle.paths.specs.Hangs.{depth, nextOf};
+ghost use Rattle.model.specs.Forest.{cur, nxt, joined};
+ghost use Rattle.paths.specs.Hangs.{depth};
 ghost use Rattle.paths.specs.Meet.{meetOf};
-ghost use Rattle.entries.specs.Nodes.{NodesStand, Known, firstNodes, countIn, childrenIn};
-ghost use Rattle.entries.specs.Connections.{oldest, connectionIn, supportIn};
-ghost use Rattle.forest.specs.Parents.{Stands, parentWords};
+ghost use Rattle.forest.specs.Rows.{rowWords, tableWords, nextWord, ageWord, costWord, depthWord, nextIn, ageIn, costIn, depthIn, listed, Rooted, Climbs, Ends, rowsOf};
+ghost use Rattle.forest.specs.Filling.{Tied, DepthsUnknown, DepthsKnown, Sounded, Sounding, Settled, Unsettled};
 
-// A node's word in the table of parents.
-pub fn parent_of(parents: &[u16], n: NodeNo) -> usize
-    requires { ⌜ n .0 < length (now parents) ⌝ }
-    ensures { λ r. ⌜ r ≡ getD (now (parents .entry)) (n .0) 0 ⌝ }
+// The words of a row and of a table, and where in a row each word stands; specs/Rows.antt has the same.
+const ROW_WORDS: usize = 4;
+
+pub const TABLE_WORDS: usize = NODE_LIMIT * ROW_WORDS;
+
+const NEXT: usize = 0;
+
+const AGE: usize = 1;
+
+const COST: usize = 2;
+
+const DEPTH: usize = 3;
+
+// A word of a node's row.
+fn row_word(rows: &[u16; TABLE_WORDS], n: NodeNo, k: usize) -> u16
+    requires { ⌜ (n .0 < nodeLimit) × (k < rowWords) ⌝ }
+    ensures { λ r. ⌜ r ≡ getD (now (rows .entry)) (n .0 * rowWords + k) 0 ⌝ }
 {
-    wide(parents[wide(n.0)])
+    rows[wide(n.0) * ROW_WORDS + k]
+}
+
+// Writes a word of a node's row.
+fn put_word(rows: &mut [u16; TABLE_WORDS], n: NodeNo, k: usize, word: u16)
+    requires { ⌜ (n .0 < nodeLimit) × (k < rowWords) ⌝ }
+    ensures { λ _. ⌜ now (rows .exit) ≡ set (now (rows .entry)) (n .0 * rowWords + k) word ⌝ }
+{
+    rows[wide(n.0) * ROW_WORDS + k] = word;
 }
 
 // The node that n's parent connection leads to, or n itself where it has none.
-pub fn next_of(parents: &[u16], conns: &[u16], count: usize, n: NodeNo) -> NodeNo
-    requires { ⌜ Stands (now parents) (now conns) count ⌝ }
+pub fn next_of(rows: &[u16; TABLE_WORDS], n: NodeNo) -> NodeNo
     requires { ⌜ n .0 < nodeLimit ⌝ }
-    ensures { λ r. ⌜ (r .0 ≡ nextOf (oldest count (now (conns .entry))) (n .0)) × (r .0 < nodeLimit) ⌝ }
+    ensures { λ r. ⌜ r .0 ≡ nextIn (now (rows .entry)) (n .0) ⌝ }
 {
-    let age = parent_of(parents, n);
-    if age == 0 {
-        n
-    } else {
-        NodeNo(word(conns, (age - 1) * CONNECTION_WORDS, 1))
+    NodeNo(row_word(rows, n, NEXT))
+}
+
+// The age of n's parent connection, and 1; 0 where it has none.
+fn age_of(rows: &[u16; TABLE_WORDS], n: NodeNo) -> usize
+    requires { ⌜ n .0 < nodeLimit ⌝ }
+    ensures { λ r. ⌜ r ≡ ageIn (now (rows .entry)) (n .0) ⌝ }
+{
+    wide(row_word(rows, n, AGE))
+}
+
+// What n's parent connection costs.
+pub fn cost_of(rows: &[u16; TABLE_WORDS], n: NodeNo) -> u16
+    requires { ⌜ n .0 < nodeLimit ⌝ }
+    ensures { λ r. ⌜ r ≡ costIn (now (rows .entry)) (n .0) ⌝ }
+{
+    row_word(rows, n, COST)
+}
+
+// How many connections a climb from n takes, and 1; 0 while that is not known.
+fn depth_of(rows: &[u16; TABLE_WORDS], n: NodeNo) -> usize
+    requires { ⌜ n .0 < nodeLimit ⌝ }
+    ensures { λ r. ⌜ r ≡ depthIn (now (rows .entry)) (n .0) ⌝ }
+{
+    wide(row_word(rows, n, DEPTH))
+}
+
+// Writes what n's parent connection costs.
+pub fn put_cost(rows: &mut [u16; TABLE_WORDS], n: NodeNo, cost: u16)
+    requires { ⌜ n .0 < nodeLimit ⌝ }
+    ensures { λ _. ⌜ now (rows .exit) ≡ set (now (rows .entry)) (n .0 * rowWords + costWord) cost ⌝ }
+{
+    put_word(rows, n, COST, cost);
+}
+
+// Makes a node's row that of a node without a parent, its depth not known.
+fn put_top(rows: &mut [u16; TABLE_WORDS], n: NodeNo)
+    requires { ⌜ n .0 < nodeLimit ⌝ }
+    ensures { λ _. ⌜ now (rows .exit) ≡ set (set (set (set (now (rows .entry)) (n .0 * rowWords + nextWord) (n .0)) (n .0 * rowWords + ageWord) 0) (n .0 * rowWords + costWord) 0) (n .0 * rowWords + depthWord) 0 ⌝ }
+{
+    put_word(rows, n, NEXT, n.0);
+    put_word(rows, n, AGE, 0);
+    put_word(rows, n, COST, 0);
+    put_word(rows, n, DEPTH, 0);
+}
+
+// Makes the connection of an age its current node's parent.
+fn put_parent(rows: &mut [u16; TABLE_WORDS], c: Connection, age: usize)
+    requires { ⌜ (cur c < nodeLimit) × (age < nodeLimit) ⌝ }
+    ensures { λ _. ⌜ now (rows .exit) ≡ set (set (now (rows .entry)) (cur c * rowWords + nextWord) (nxt c)) (cur c * rowWords + ageWord) (age + 1) ⌝ }
+{
+    let current = c.current;
+    let next = c.next;
+    put_word(rows, current, NEXT, next.0);
+    put_word(rows, current, AGE, (age + 1) as u16);
+}
+
+// Makes each of n nodes one without a parent.
+fn put_tops(n: usize, rows: &mut [u16; TABLE_WORDS])
+    requires { ⌜ (n ≤ nodeLimit) × (length (now rows) ≡ tableWords) ⌝ }
+    ensures { λ _. ⌜ Tied [] n (now (rows .entry)) (now (rows .exit)) × DepthsUnknown n (now (rows .exit)) ⌝ }
+{
+    let mut i: usize = 0;
+    while i < n {
+        put_top(rows, NodeNo(i as u16));
+        i += 1;
     }
 }
 
-// How many connections a climb from n takes.
-pub fn depth_of(parents: &[u16], conns: &[u16], count: usize, n: NodeNo) -> usize
-    requires { ⌜ Stands (now parents) (now conns) count ⌝ }
-    requires { ⌜ n .0 < nodeLimit ⌝ }
-    ensures { λ r. ⌜ r ≡ depth (oldest count (now (conns .entry))) (n .0) ⌝ }
+// A node's depth and 1, by the nearest node above it whose depth is known.
+fn depth_above(rows: &[u16; TABLE_WORDS], n: NodeNo) -> usize
+    requires { ⌜ Sounding (now rows) (n .0) ⌝ }
+    ensures { λ r. ⌜ ((cs : List Connection) (k : ℕ) (old : List ℕ) → Sounded cs k old (now (rows .entry)) → n .0 < k → r ≡ suc (depth cs (n .0))) ⌝ }
 {
     let mut at = n;
     let mut steps: usize = 0;
-    while parent_of(parents, at) != 0 {
-        at = next_of(parents, conns, count, at);
+    while depth_of(rows, at) == 0 {
         steps += 1;
+        if age_of(rows, at) == 0 {
+            return steps;
+        }
+        at = next_of(rows, at);
     }
-    steps
+    steps + depth_of(rows, at)
+}
+
+// Writes a node's depth, and those of the nodes above it as far as they are not known: the same climb again.
+fn settle(rows: &mut [u16; TABLE_WORDS], n: NodeNo)
+    requires { ⌜ Sounding (now rows) (n .0) ⌝ }
+    ensures { λ _. ⌜ ((cs : List Connection) (k : ℕ) (old : List ℕ) → Sounded cs k old (now (rows .entry)) → n .0 < k → Settled cs k old (now (rows .entry)) (now (rows .exit)) (n .0)) ⌝ }
+{
+    let mut at = n;
+    let mut depth = depth_above(rows, n);
+    while depth_of(rows, at) == 0 {
+        put_word(rows, at, DEPTH, depth as u16);
+        depth -= 1;
+        at = next_of(rows, at);
+    }
+}
+
+// Writes the depths of n nodes, each once: a climb ends where the depth is known.
+fn settle_all(n: usize, rows: &mut [u16; TABLE_WORDS])
+    requires { ⌜ Unsettled n (now rows) ⌝ }
+    ensures { λ _. ⌜ ((cs : List Connection) (old : List ℕ) → Sounded cs n old (now (rows .entry)) → Sounded cs n old (now (rows .exit)) × DepthsKnown n (now (rows .exit))) ⌝ }
+{
+    let mut i: usize = 0;
+    while i < n {
+        settle(rows, NodeNo(i as u16));
+        i += 1;
+    }
+}
+
+// Writes the rows of n nodes from accepted connections, with no cost.
+pub fn fill_rows(conns: &[u16], n: usize, rows: &mut [u16; TABLE_WORDS])
+    requires { ⌜ Rooted n (listed (now conns)) × (length (now rows) ≡ tableWords) ⌝ }
+    ensures { λ _. ⌜ now (rows .exit) ≡ rowsOf (listed (now (conns .entry))) n ++ drop (n * rowWords) (now (rows .entry)) ⌝ }
+{
+    put_tops(n, rows);
+    let count = conns.len() / CONNECTION_WORDS;
+    let mut age: usize = 0;
+    while age < count {
+        put_parent(rows, connection_at(conns, age), age);
+        age += 1;
+    }
+    settle_all(n, rows);
 }
 
 // Both ends climb by parent connections until they meet: the deeper one first, the left one where both are as deep.
-pub fn meet(parents: &[u16], conns: &[u16], count: usize, left: NodeNo, right: NodeNo) -> Meeting
-    requires { ⌜ Stands (now parents) (now conns) count ⌝ }
-    requires { ⌜ (left .0 < nodeLimit) × (right .0 < nodeLimit) ⌝ }
-    ensures { λ m. ⌜ m ≡ meetOf (oldest count (now (conns .entry))) (left .0) (right .0) ⌝ }
+pub fn meet(rows: &[u16; TABLE_WORDS], left: NodeNo, right: NodeNo) -> Meeting
+    requires { ⌜ Ends (now rows) (left .0) (right .0) ⌝ }
+    ensures { λ m. ⌜ ((cs : List Connection) (n : ℕ) → Climbs cs n (now (rows .entry)) → left .0 < n → right .0 < n → m ≡ meetOf cs (left .0) (right .0)) ⌝ }
 {
     let mut l = left;
     let mut r = right;
-    let mut dl = depth_of(parents, conns, count, left);
-    let mut dr = depth_of(parents, conns, count, right);
     let found = loop {
         if l.0 == r.0 {
             break Meeting::At(l);
         }
-        if dl < dr {
-            r = next_of(parents, conns, count, r);
-            dr -= 1;
+        if depth_of(rows, l) < depth_of(rows, r) {
+            r = next_of(rows, r);
         } else {
-            if dl == 0 {
+            if age_of(rows, l) == 0 {
                 break Meeting::Nowhere;
             }
-            l = next_of(parents, conns, count, l);
-            dl -= 1;
+            l = next_of(rows, l);
         }
     };
     found
 }
 
 // Whether connections join two nodes.
-pub fn linked(parents: &[u16], conns: &[u16], count: usize, left: NodeNo, right: NodeNo) -> bool
-    requires { ⌜ Stands (now parents) (now conns) count ⌝ }
-    requires { ⌜ (left .0 < nodeLimit) × (right .0 < nodeLimit) ⌝ }
-    ensures { λ r. ⌜ r ≡ joined (oldest count (now (conns .entry))) (left .0) (right .0) ⌝ }
+pub fn joined(rows: &[u16; TABLE_WORDS], left: NodeNo, right: NodeNo) -> bool
+    requires { ⌜ Ends (now rows) (left .0) (right .0) ⌝ }
+    ensures { λ r. ⌜ ((cs : List Connection) (n : ℕ) → Climbs cs n (now (rows .entry)) → left .0 < n → right .0 < n → r ≡ joined cs (left .0) (right .0)) ⌝ }
 {
-    let m = meet(parents, conns, count, left, right);
+    let m = meet(rows, left, right);
     match m {
         Meeting::At(_) => true,
         Meeting::Nowhere => false,
     }
-}
-
-// Whether connections join the children of two nodes, of which both have as many, pair by pair.
-fn children_linked(
-    nodes: &[u16],
-    parents: &[u16],
-    conns: &[u16],
-    count: usize,
-    a: NodeNo,
-    b: NodeNo,
-) -> bool
-    requires { ⌜ Stands (now parents) (now conns) count ⌝ }
-    requires { ⌜ Known (now nodes) (a .0) × Known (now nodes) (b .0) ⌝ }
-    requires { ⌜ countIn (now nodes) (a .0) ≡ countIn (now nodes) (b .0) ⌝ }
-    ensures { λ r. ⌜ r ≡ pairsJoined (joined (oldest count (now (conns .entry)))) (childrenIn (now (nodes .entry)) (a .0)) (childrenIn (now (nodes .entry)) (b .0)) ⌝ }
-{
-    let n = count_of(nodes, a);
-    let mut i: usize = 0;
-    while i < n {
-        if !linked(
-            parents,
-            conns,
-            count,
-            child_of(nodes, a, i),
-            child_of(nodes, b, i),
-        ) {
-            return false;
-        }
-        i += 1;
-    }
-    true
-}
-
-// Whether a congruence between two nodes has its support: equal operators and child counts, and each pair of children joined.
-fn supports(
-    nodes: &[u16],
-    parents: &[u16],
-    conns: &[u16],
-    count: usize,
-    a: NodeNo,
-    b: NodeNo,
-) -> bool
-    requires { ⌜ Stands (now parents) (now conns) count ⌝ }
-    requires { ⌜ Known (now nodes) (a .0) × Known (now nodes) (b .0) ⌝ }
-    ensures { λ r. ⌜ r ≡ supportIn (now (nodes .entry)) (oldest count (now (conns .entry))) (a .0) (b .0) ⌝ }
-{
-    if !same_op(operator_of(nodes, a), operator_of(nodes, b)) {
-        return false;
-    }
-    if count_of(nodes, a) != count_of(nodes, b) {
-        return false;
-    }
-    children_linked(nodes, parents, conns, count, a, b)
-}
-
-// Judges a connection over n nodes, behind the count of connections that were accepted before it.
-pub fn judge_connection(
-    nodes: &[u16],
-    n: usize,
-    parents: &[u16],
-    conns: &[u16],
-    count: usize,
-    c: Connection,
-) -> Judgement
-    requires { ⌜ NodesStand (now nodes) n ⌝ }
-    requires { ⌜ Stands (now parents) (now conns) count ⌝ }
-    ensures { λ r. ⌜ r ≡ judgementOf (addConnection (firstNodes n (now (nodes .entry))) (oldest count (now (conns .entry))) (some c)) ⌝ }
-{
-    let a = c.current;
-    let b = c.next;
-    if n <= wide(a.0) {
-        return Judgement::Faulty(6);
-    }
-    if n <= wide(b.0) {
-        return Judgement::Faulty(6);
-    }
-    if parent_of(parents, a) != 0 {
-        return Judgement::Faulty(6);
-    }
-    if linked(parents, conns, count, a, b) {
-        return Judgement::Faulty(6);
-    }
-    let why = c.why;
-    match why {
-        Justification::Rule(_, _) => Judgement::Taken,
-        Justification::Congruence => {
-            if supports(nodes, parents, conns, count, a, b) {
-                Judgement::Taken
-            } else {
-                Judgement::Faulty(7)
-            }
-        }
-    }
-}
-
-// Judges the entry of an age, over n nodes, behind the older ones.
-pub fn judge_entry(nodes: &[u16], n: usize, parents: &[u16], conns: &[u16], age: usize) -> Judgement
-    requires { ⌜ NodesStand (now nodes) n ⌝ }
-    requires { ⌜ Stands (now parents) (now conns) age ⌝ }
-    ensures { λ r. ⌜ r ≡ judgementOf (addConnection (firstNodes n (now (nodes .entry))) (oldest age (now (conns .entry))) (connectionEntry (now (conns .entry)) age)) ⌝ }
-{
-    if !entry_whole(conns, age) {
-        return Judgement::Faulty(2);
-    }
-    judge_connection(nodes, n, parents, conns, age, connection_at(conns, age))
-}
-
-// Makes the connection of an age the parent of a node.
-pub fn hang(parents: &mut [u16], n: NodeNo, age: usize)
-    requires { ⌜ (n .0 < length (now parents)) × (age ≤ nodeLimit) ⌝ }
-    ensures { λ _. ⌜ now (parents .exit) ≡ set (now (parents .entry)) (n .0) (age + 1) ⌝ }
-{
-    parents[wide(n.0)] = (age + 1) as u16;
-}
-
-// Sets every word to zero.
-fn clear(words: &mut [u16])
-    ensures { λ _. ⌜ now (words .exit) ≡ replicate (length (now (words .entry))) 0 ⌝ }
-{
-    let mut i: usize = 0;
-    while i < words.len() {
-        words[i] = 0;
-        i += 1;
-    }
-}
-
-// Judges a whole table of connections over n nodes, and makes the table of parents that belongs to it; refused, that is all zero.
-pub fn judge_connections(nodes: &[u16], n: usize, conns: &[u16], parents: &mut [u16]) -> Judgement
-    requires { ⌜ NodesStand (now nodes) n ⌝ }
-    requires { ⌜ length (now parents) ≡ nodeLimit ⌝ }
-    ensures { λ r. ⌜ r ≡ judgementOf (connectionTable (firstNodes n (now (nodes .entry))) (now (conns .entry))) ⌝ }
-    ensures { λ _. ⌜ now (parents .exit) ≡ parentWords (connectionTable (firstNodes n (now (nodes .entry))) (now (conns .entry))) ⌝ }
-{
-    clear(parents);
-    let mut age: usize = 0;
-    while age * CONNECTION_WORDS < conns.len() {
-        let judged = judge_entry(nodes, n, parents, conns, age);
-        if let Judgement::Faulty(number) = judged {
-            clear(parents);
-            return Judgement::Faulty(number);
-        }
-        hang(parents, connection_at(conns, age).current, age);
-        age += 1;
-    }
-    Judgement::Taken
 }

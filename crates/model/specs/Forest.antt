@@ -67,7 +67,8 @@ unfoldable pub path : List Connection → ℕ → ℕ → List Hop
 unfolding walk
 path = walk [] _++_ (λ _ _ c u. record { conn = c; up = u } ∷ [])
 
--- "1 for a rule, for a congruence the sum of its children's distances"
+-- "1 for a rule, for a congruence the sum of its children's distances": the pairing may stop at the shorter list, since
+-- judging has refused a congruence of unequal counts (7)
 unfoldable pub sumPairs : (ℕ → ℕ → ℕ) → List ℕ → List ℕ → ℕ
 sumPairs f [] ys = 0
 sumPairs f (x ∷ xs) [] = 0

@@ -17,3 +17,4 @@ pub mod Tables
 pub mod Frame
 pub mod Run
 pub mod Rows
+pub mod Claims

@@ -1,5 +1,7 @@
 -- Document 01's P rows, computed: one list of inputs with the outputs they must give, and one claim.
--- Behind P1 to P12 stand rows for the errors that look right (E1 to E5), the end of the input (E6, E7), a run that goes on (E8) and directions (E9).
+-- Behind P1 to P12 stand rows for the errors that look right (E1 to E5), the end of the input (E6, E7), a run that goes on (E8),
+-- directions and congruences (E9 to E11), lines and frames (F1 to F6), tables (T1 to T4) and the checker's other refusals (C1 to C8).
+-- Claims.antt has what no line of input shows: limits, areas, rooms and reports.
 use Prim.Native.String.{String, _++_}
 use mathlib.Core.List.{List, [], _∷_, map}
 use mathlib.Core.Path.{_≡_, refl}
@@ -113,6 +115,100 @@ rows =
       input = "01000100\n" ++ "01000200\n" ++ "030000000101000700\n" ++ "0400000001\n" ++ "0400010000\n";
       expected = "distance 1\n" ++ "o1\n" ++ "(Rewrite<= r7 o2)\n" ++ "distance 1\n" ++ "o2\n" ++ "(Rewrite=> r7 o1)\n";
     }
+    -- E10 a congruence over two children, both changed, both ways: first to last each way
+    ∷ record {
+      input =
+          "01000100\n" ++ "01000200\n" ++ "01000300\n" ++ "01000400\n" ++ "0100050200000002\n" ++ "0100050200010003\n"
+          ++ "030000000101000701\n" ++ "030002000301000801\n" ++ "030004000500000000\n" ++ "0400040005\n" ++ "0400050004\n";
+      expected =
+          "distance 2\n" ++ "(o5 o1 o3)\n" ++ "(o5 (Rewrite=> r7 o2) o3)\n" ++ "(o5 o2 (Rewrite=> r8 o4))\n"
+          ++ "distance 2\n" ++ "(o5 o2 o4)\n" ++ "(o5 (Rewrite<= r7 o1) o4)\n" ++ "(o5 o1 (Rewrite<= r8 o3))\n";
+    }
+    -- E11 a rule hop and then a congruence: the first term of its run merges into the last one written and keeps its marks
+    ∷ record {
+      input =
+          nodeLines ++ "01000900\n" ++ byRule ++ "030004000201000601\n" ++ byCongruence ++ "0400040003\n" ++ "0400030004\n";
+      expected =
+          "distance 2\n" ++ "o9\n" ++ "(Rewrite=> r6 (o3 o1))\n" ++ "(o3 (Rewrite=> r7 o2))\n"
+          ++ "distance 2\n" ++ "(o3 o2)\n" ++ "(o3 (Rewrite<= r7 o1))\n" ++ "(Rewrite<= r6 o9)\n";
+    }
+    -- F1 lines that are no lower-case hex pairs: empty, an odd digit, and the bytes around 0 to 9 and a to f
+    ∷ record { input = "\n"; expected = "refused 1 line 1\n" }
+    ∷ record { input = "010\n"; expected = "refused 1 line 1\n" }
+    ∷ record { input = "01000/00\n"; expected = "refused 1 line 1\n" }
+    ∷ record { input = "01000:00\n"; expected = "refused 1 line 1\n" }
+    ∷ record { input = "01000A00\n"; expected = "refused 1 line 1\n" }
+    ∷ record { input = "01000`00\n"; expected = "refused 1 line 1\n" }
+    ∷ record { input = "01000g00\n"; expected = "refused 1 line 1\n" }
+    -- F2 unknown kinds
+    ∷ record { input = "00\n"; expected = "refused 2 line 1\n" }
+    ∷ record { input = "07\n"; expected = "refused 2 line 1\n" }
+    -- F3 kinds that go down: 01 after 02, 03 after 04, 04 after 05, 04 after 06
+    ∷ record { input = r7 ++ "01000100\n"; expected = "refused 2 line 2\n" }
+    ∷ record { input = tableLines ++ "0400010001\n" ++ byRule; expected = "distance 0\n" ++ "o2\n" ++ "refused 2 line 9\n" }
+    ∷ record { input = tableLines ++ first ++ "0400010001\n"; expected = "refused 2 line 9\n" }
+    ∷ record { input = tableLines ++ first ++ "06\n" ++ "0400010001\n"; expected = "accepted 1\n" ++ "refused 2 line 10\n" }
+    -- F4 a node's count byte, and how many children follow; nine children
+    ∷ record { input = "01000100\n" ++ "01000301\n"; expected = "refused 2 line 2\n" }
+    ∷ record { input = "01000100\n" ++ "010003000000\n"; expected = "refused 2 line 2\n" }
+    ∷ record { input = "01000100\n" ++ "01000309" ++ "000000000000" ++ "000000000000" ++ "000000000000\n"; expected = "refused 2 line 2\n" }
+    -- F5 lengths of the other kinds: a byte behind each, and words that are no sixes
+    ∷ record { input = "020007010001000100020000\n"; expected = "refused 2 line 1\n" }
+    ∷ record { input = "03000000010100070100\n"; expected = "refused 2 line 1\n" }
+    ∷ record { input = "040000000000\n"; expected = "refused 2 line 1\n" }
+    ∷ record { input = "05\n"; expected = "refused 2 line 1\n" }
+    ∷ record { input = "050001000000\n"; expected = "refused 2 line 1\n" }
+    ∷ record { input = "0600\n"; expected = "refused 2 line 1\n" }
+    -- F6 words end with their proof: a second 06 has none, and 05 after 06 starts anew
+    ∷ record { input = tableLines ++ first ++ "06\n" ++ "06\n"; expected = "accepted 1\n" ++ "rejected 12 term 0\n" }
+    ∷ record { input = tableLines ++ first ++ "06\n" ++ first ++ second ++ "06\n"; expected = "accepted 1\n" ++ "accepted 2\n" }
+    -- T1 a child that is not below its node: 4
+    ∷ record { input = "010001010000\n"; expected = "refused 4 line 1\n" }
+    -- T2 a rule number listed before, and a right variable absent on the left: 5
+    ∷ record { input = r7 ++ r7; expected = "refused 5 line 2\n" }
+    ∷ record { input = "0200070100010000" ++ "00\n"; expected = "refused 5 line 1\n" }
+    -- T3 a connection out of the table, to itself, from a node with a parent, and between nodes that are joined: 6
+    ∷ record { input = nodeLines ++ "030004000001000701\n"; expected = "refused 6 line 5\n" }
+    ∷ record { input = nodeLines ++ "030000000401000701\n"; expected = "refused 6 line 5\n" }
+    ∷ record { input = nodeLines ++ "030000000001000701\n"; expected = "refused 6 line 5\n" }
+    ∷ record { input = nodeLines ++ byRule ++ "030000000201000701\n"; expected = "refused 6 line 6\n" }
+    ∷ record { input = nodeLines ++ byRule ++ "030001000001000701\n"; expected = "refused 6 line 6\n" }
+    -- T4 a connection's fields outside their sets: kind 2, forward 2, a congruence with a rule or with a direction
+    ∷ record { input = nodeLines ++ "030000000102000701\n"; expected = "refused 2 line 5\n" }
+    ∷ record { input = nodeLines ++ "030000000101000702\n"; expected = "refused 2 line 5\n" }
+    ∷ record { input = nodeLines ++ "030002000300000700\n"; expected = "refused 2 line 5\n" }
+    ∷ record { input = nodeLines ++ "030002000300000001\n"; expected = "refused 2 line 5\n" }
+    -- C1 words that are no whole number of terms: 13
+    ∷ record { input = "05000301000000\n" ++ "06\n"; expected = "rejected 13 term 0\n" }
+    -- C2 a count above 8, a mark above 2, an unmarked node with a rule: 13
+    ∷ record {
+      input =
+          "05000309000000" ++ "000100000000" ++ "000100000000" ++ "000100000000" ++ "000100000000" ++ "000100000000" ++ "000100000000"
+          ++ "000100000000" ++ "000100000000" ++ "000100000000\n" ++ "06\n";
+      expected = "rejected 13 term 0\n";
+    }
+    ∷ record { input = r7 ++ "05000100030007\n" ++ "06\n"; expected = "rejected 13 term 0\n" }
+    ∷ record { input = r7 ++ "05000100000007\n" ++ "06\n"; expected = "rejected 13 term 0\n" }
+    -- C3 the first term marked: 14
+    ∷ record { input = r7 ++ "05000200010007\n" ++ "06\n"; expected = "rejected 14 term 0\n" }
+    -- C4 a later term with no mark: 15
+    ∷ record { input = r7 ++ first ++ first ++ "06\n"; expected = "rejected 15 term 1\n" }
+    -- C5 marks of both directions in one term: 15
+    ∷ record {
+      input =
+          r7 ++ "05000502000000" ++ "000100000000" ++ "000200000000\n" ++ "05000502000000" ++ "000200010007" ++ "000100020007\n" ++ "06\n";
+      expected = "rejected 15 term 1\n";
+    }
+    -- C6 two marks of one direction side by side
+    ∷ record {
+      input =
+          r7 ++ "05000502000000" ++ "000100000000" ++ "000100000000\n" ++ "05000502000000" ++ "000200010007" ++ "000200010007\n" ++ "06\n";
+      expected = "accepted 2\n";
+    }
+    -- C7 a mark inside a marked subterm: 18
+    ∷ record { input = r7 ++ first ++ "05000301010007" ++ "000200010007\n" ++ "06\n"; expected = "rejected 18 term 1\n" }
+    -- C8 the place of the first bad term
+    ∷ record { input = tableLines ++ first ++ second ++ first ++ "06\n"; expected = "rejected 15 term 2\n" }
     ∷ []
 
 claim : map (λ r. output (bytes (r .input))) rows ≡ map (λ r. bytes (r .expected)) rows

@@ -27,6 +27,9 @@ use Rattle.model.specs.Connect.{addConnection}
 use Rattle.model.specs.Query.{Tables, measure, answer, areaAfter}
 
 -- How an entry lies. A node: operator, count, and a slot for each of eight children.
+abbrev pub countAt : ℕ
+countAt = 1
+
 abbrev pub childrenAt : ℕ
 childrenAt = 2
 

@@ -108,6 +108,19 @@ pub const RULE_WORDS: usize = RIGHT_AT + SIDE_WORDS;
 
 pub const CONNECTION_WORDS: usize = 5;
 
+// Where a node's count and children stand in its entry, and the fields of a connection behind current.
+pub const COUNT_AT: usize = 1;
+
+pub const CHILDREN_AT: usize = 2;
+
+pub const NEXT_AT: usize = 1;
+
+pub const WHY_AT: usize = 2;
+
+pub const BY_RULE_AT: usize = 3;
+
+pub const FORWARD_AT: usize = 4;
+
 // A word as a count or a place.
 pub fn wide(x: u16) -> usize
     ensures { λ r. ⌜ r ≡ x ⌝ }

@@ -1,5 +1,7 @@
-// The node table: its entries judged, and read. A node is 10 words: its operator, how many children it has, and eight places for these.
+// The node table: its entries judged, and read. A node is ten words: its operator, how many children it has, and eight places for these.
 use model::CHILD_LIMIT;
+use model::CHILDREN_AT;
+use model::COUNT_AT;
 use model::Judgement;
 use model::NODE_LIMIT;
 use model::NODE_WORDS;
@@ -29,7 +31,7 @@ pub fn count_of(nodes: &[u16], n: NodeNo) -> usize
     requires { ⌜ n .0 * nodeWords + nodeWords ≤ length (now nodes) ⌝ }
     ensures { λ r. ⌜ r ≡ countIn (now (nodes .entry)) (n .0) ⌝ }
 {
-    wide(word(nodes, wide(n.0) * NODE_WORDS, 1))
+    wide(word(nodes, wide(n.0) * NODE_WORDS, COUNT_AT))
 }
 
 // A child of a node, from 0.
@@ -37,7 +39,7 @@ pub fn child_of(nodes: &[u16], n: NodeNo, i: usize) -> NodeNo
     requires { ⌜ (n .0 * nodeWords + nodeWords ≤ length (now nodes)) × (i < childLimit) ⌝ }
     ensures { λ r. ⌜ r .0 ≡ childIn (now (nodes .entry)) (n .0) i ⌝ }
 {
-    NodeNo(word(nodes, wide(n.0) * NODE_WORDS + 2, i))
+    NodeNo(word(nodes, wide(n.0) * NODE_WORDS + CHILDREN_AT, i))
 }
 
 // Whether the children of a node have lower numbers than its own.
@@ -45,10 +47,10 @@ fn children_below(nodes: &[u16], n: usize) -> bool
     requires { ⌜ (n ≤ nodeLimit) × (n * nodeWords + nodeWords ≤ length (now nodes)) × (countIn (now nodes) n ≤ childLimit) ⌝ }
     ensures { λ r. ⌜ r ≡ allBelow n (childrenIn (now (nodes .entry)) n) ⌝ }
 {
-    let count = wide(word(nodes, n * NODE_WORDS, 1));
+    let count = wide(word(nodes, n * NODE_WORDS, COUNT_AT));
     let mut i: usize = 0;
     while i < count {
-        if n <= wide(word(nodes, n * NODE_WORDS + 2, i)) {
+        if n <= wide(word(nodes, n * NODE_WORDS + CHILDREN_AT, i)) {
             return false;
         }
         i += 1;
@@ -57,14 +59,14 @@ fn children_below(nodes: &[u16], n: usize) -> bool
 }
 
 // Judges the entry of node n, behind the nodes before it.
-pub fn judge_node(nodes: &[u16], n: usize) -> Judgement
+fn judge_node(nodes: &[u16], n: usize) -> Judgement
     requires { ⌜ n ≤ nodeLimit ⌝ }
     ensures { λ r. ⌜ r ≡ judgementOf (addNode (firstNodes n (now (nodes .entry))) (nodeEntry (now (nodes .entry)) n)) ⌝ }
 {
     if nodes.len() < n * NODE_WORDS + NODE_WORDS {
         return Judgement::Faulty(2);
     }
-    if CHILD_LIMIT < word(nodes, n * NODE_WORDS, 1) {
+    if CHILD_LIMIT < word(nodes, n * NODE_WORDS, COUNT_AT) {
         return Judgement::Faulty(2);
     }
     if NODE_LIMIT <= n {

@@ -21,6 +21,8 @@ hopOf _ _ c u = record { conn = c; up = u } ∷ []
 pub record Climbed (cs : List Connection) (l r : ℕ) : Type 0 where
   pub i : ℕ
   pub j : ℕ
+  pub left-deep : i ≤ depth cs l
+  pub right-deep : j ≤ depth cs r
   pub left : climbBy cs i l ≡ topOf cs l r
   pub right : climbBy cs j r ≡ topOf cs l r
   pub whole : path cs l r ≡ ups [] _++_ hopOf cs i l ++ downs [] _++_ hopOf cs j r
@@ -89,4 +91,13 @@ climbed cs l r f j =
     let e : topOf cs l r ≡ climbBy cs (m .i) l =
     ap (orElse l) (sym (ends-path cs l r) ∙ ap ends (m .whole) ∙ ends-append up down ∙ ap (last (ends up)) (downs-end (m .j) cs r))
     ∙ ups-end (m .i) cs l f (omega (arith, m .left)) in
-    record { i = m .i; j = m .j; left = sym e; right = sym (m .meet) ∙ sym e; whole = m .whole; lowest = m .lowest }
+    record {
+      i = m .i;
+      j = m .j;
+      left-deep = omega (arith, m .left);
+      right-deep = omega (arith, m .right);
+      left = sym e;
+      right = sym (m .meet) ∙ sym e;
+      whole = m .whole;
+      lowest = m .lowest;
+    }

@@ -9,3 +9,4 @@ pub mod Accept
 pub mod Count
 pub mod Meets
 pub mod Climbed
+pub mod Above

@@ -1,19 +1,18 @@
 -- Where two climbs meet: the deeper end climbs, and where they meet stays the same.
-use Prim.Native.Nat.{ℕ, zero, suc, _-_, _≤_, _<_}
+use Prim.Native.Nat.{ℕ, _≤_, _<_}
 use mathlib.Core.Path.{_≡_, refl, sym, ap, _∙_}
 use mathlib.Core.Bool.{Bool, true, false}
 use mathlib.Core.List.{List, [], _∷_}
 use mathlib.Core.Logic.{⊎-elim}
 use native.Mathlib.Omega.{arith}
 use native.Mathlib.Decide.{ℕ-discrete}
-use Rattle.model.specs.Limits.{nodeLimit}
 use Rattle.model.specs.declared.Connection.{Connection}
 use Rattle.model.specs.Forest.{nxt, root, joined, walk, below, parentOf}
 use Rattle.paths.specs.Hangs.{nextOf, depth, Forest, Within}
 use Rattle.paths.specs.Meet.{Last, none, at, last, orElse, lastUp, topOf, meetOf, found}
 use Rattle.paths.specs.declared.Meeting.the-variants.{At, Nowhere}
 use Rattle.paths.proofs.Laws.{no-parent, parent-case, root-below, depth-zero, joined-yes, joined-no, climb-left, climb-right, walk-self}
-use Rattle.paths.proofs.Places.{Place, high, low, place, depth-next}
+use Rattle.paths.proofs.Places.{Place, high, low, place}
 
 -- a parent connection is one of the list's
 pub within-parent : (m : ℕ) (cs : List Connection) (n : ℕ) {c : Connection} {older : List Connection} → Within m cs →
@@ -78,36 +77,6 @@ module _ (cs : List Connection) (l r : ℕ) (f : Forest cs) (n : l ≡ r → ⊥
 
   pub meet-nowhere : depth cs l ≡ 0 → depth cs r ≡ 0 → meetOf cs l r ≡ Nowhere
   meet-nowhere p q = meet-none cs l r (λ e. n (sym (depth-zero cs l f p) ∙ e ∙ depth-zero cs r f q))
-
--- two climbs that have not met, with what is left of each
-pub record Climb (cs : List Connection) (l₀ r₀ l r dl dr : ℕ) : Type 0 where
-  pub left-in : l < nodeLimit
-  pub right-in : r < nodeLimit
-  pub left-depth : dl ≡ depth cs l
-  pub right-depth : dr ≡ depth cs r
-  pub same : meetOf cs l r ≡ meetOf cs l₀ r₀
-
-module _ (cs : List Connection) (l₀ r₀ l r dl dr : ℕ) (f : Forest cs) (k : Climb cs l₀ r₀ l r dl dr) (n : l ≡ r → ⊥) (m : ℕ)
-    (small : m < nodeLimit) where
-  pub right-up : dl < dr → m ≡ nextOf cs r → Climb cs l₀ r₀ l m dl (dr - 1)
-  right-up h e =
-      rw e record {
-        left-in = k .left-in;
-        right-in = rw e at small;
-        left-depth = k .left-depth;
-        right-depth = omega (arith, k .right-depth, depth-next cs r f (omega (arith, k .right-depth)));
-        same = sym (meet-right cs l r f n (omega (arith, k .right-depth)) (omega (arith, k .left-depth, k .right-depth))) ∙ k .same;
-      }
-
-  pub left-up : dr ≤ dl → (dl ≡ 0 → ⊥) → m ≡ nextOf cs l → Climb cs l₀ r₀ m r (dl - 1) dr
-  left-up h z e =
-      rw e record {
-        left-in = rw e at small;
-        right-in = k .right-in;
-        left-depth = omega (arith, k .left-depth, depth-next cs l f (omega (arith, k .left-depth)));
-        right-depth = k .right-depth;
-        same = sym (meet-left cs l r f n (omega (arith, k .left-depth)) (omega (arith, k .left-depth, k .right-depth))) ∙ k .same;
-      }
 
 pub meet-joined : (cs : List Connection) (l r : ℕ) → found (meetOf cs l r) ≡ joined cs l r
 unfolding meetOf

@@ -1,85 +1,116 @@
--- `costs::children_cost` meets its contract: what the pairs of children passed have cost, and what those left cost, make the whole sum, held at the cap.
-use borrow.Author.Needs.{needs}
+-- `costs::children_cost` meets its contract: what the pairs of children passed have cost, and what those left cost, make the whole sum,
+-- held at the cap.
 use native.Mathlib.Omega.{arith}
-use Prim.Native.Nat.{ℕ, _+_, _*_, _-_}
+use Prim.Native.Nat.{ℕ, _+_, _*_, _-_, _<_}
+use mathlib.Core.List.{List}
 use mathlib.Core.Path.{_≡_, sym, ap, ap₂, _∙_}
+use Rattle.model.specs.declared.Connection.{Connection}
 use Rattle.model.specs.Forest.{root, sumPairs}
-use Rattle.model.specs.Tables.{wordsFrom}
-use Rattle.entries.specs.Connections.{oldest}
-use Rattle.entries.specs.Nodes.{countIn, childrenIn}
-use Rattle.costs.specs.Costs.{held, weigh}
-use Rattle.costs.proofs.Weighed.{Sums, sums-none, sums-next, sums-done}
+use Rattle.model.specs.Tables.{nodeWords, childrenAt, wordsFrom}
+use Rattle.entries.specs.Nodes.{childIn, childrenIn, countIn}
+use Rattle.forest.specs.Rows.{Climbs}
+use Rattle.costs.specs.Costs.{held, nodesIn, weigh}
+use Rattle.costs.proofs.Sums.{Sums, sums-done, sums-next, sums-none}
 use Rattle.costs.proofs.children_cost.Statement.{statement}
 use Rattle.costs.proofs.children_cost.Tie as tie
 
 abbrev Inv-loop : tie.InvT-loop
-Inv-loop nodes parents conns count costs age a b n sum₀ i₀ sum i =
-    (n ≡ countIn nodes (a .0)) × Sums (weigh costs (oldest age conns)) nodes (a .0 * 10 + 2) (b .0 * 10 + 2) (countIn nodes (a .0)) i sum
+Inv-loop nodes rows a b n sum₀ i₀ sum i =
+    (n ≡ countIn nodes (a .0))
+    × ((cs : List Connection) → Climbs cs (nodesIn nodes) rows →
+    Sums (weigh rows cs) nodes (a .0 * nodeWords + childrenAt) (b .0 * nodeWords + childrenAt) (countIn nodes (a .0)) i sum)
 
 abbrev μ-loop : tie.MeasureT-loop
-μ-loop nodes parents conns count costs age a b n sum₀ i₀ sum i = n - i
+μ-loop nodes rows a b n sum₀ i₀ sum i = n - i
+
+-- the sum so far, by the connections that the rows stand for
+sums : (c : tie.At-loop Inv-loop μ-loop) →
+    let s = c .before .before .before in
+    let a = s .args in
+    Sums (weigh (a .rows .now) (s .pre .conns)) (a .nodes .now) (a .a .0 * nodeWords + childrenAt) (a .b .0 * nodeWords + childrenAt) (countIn (a .nodes .now) (a .a .0))
+    (c .loop .i) (c .loop .sum)
+sums c = let p = c .before .before .before .pre in c .loop .inv .1 (p .conns) (p .charged .climbs)
+
+-- another pair is left
+more : (c : tie.In-loop Inv-loop μ-loop) →
+    let s = c .before .before .before .before in
+    c .before .loop .i < countIn (s .args .nodes .now) (s .args .a .0)
+more c = omega (arith, c .before .loop .inv .0)
 
 count-of-requires : tie.Need-count-of-requires Inv-loop μ-loop
-count-of-requires c κs = c .before .before .before .before .pre .1 .1 .1 .left-known .room
+count-of-requires c κs = c .before .pre .left-known .room
 
 loop-holds : tie.Need-loop-holds Inv-loop μ-loop
-loop-holds c = (c .count-of .ensures, sums-none _ _ _ _ _)
+loop-holds c = (c .count-of .ensures, λ cs k. sums-none _ _ _ _ _)
 
 child-of-requires : tie.Need-child-of-requires Inv-loop μ-loop
 child-of-requires c κs =
-    let t = c .before .before .before .before .before .before .before .pre .1 .1 .1 in
-    (t .left-known .room, omega (arith, t .left-known .narrow))
+    let p = c .before .before .before .before .pre in
+    (p .left-known .room, omega (arith, more c, p .left-known .narrow))
 
 child-of-requires-2 : tie.Need-child-of-requires-2 Inv-loop μ-loop
 child-of-requires-2 c κs =
-    let t = c .before .before .before .before .before .before .before .before .pre .1 .1 .1 in
-    (t .right-known .room, omega (arith, t .left-known .narrow))
+    let p = c .before .before .before .before .before .pre in
+    (p .right-known .room, omega (arith, more (c .before), p .left-known .narrow))
 
-way-requires : tie.Need-way-requires Inv-loop μ-loop
-way-requires c κs =
-    let s = c .before .before .before .before .before .before .before .before .before in
-    let t = s .pre .1 .1 .1 in
-    let i = c .before .before .before .loop .i in
-    let p = c .before .child-of .ensures in
-    let q = c .child-of2 .ensures in
-    let cs = oldest (s .args .age) (s .args .conns .now) in (
-      s .pre .0,
-      (
-        s .pre .1 .0,
-        record {
-          older = s .pre .1 .1 .0;
-          left-in = omega (arith, p, t .left-known .children i (omega arith));
-          right-in = omega (arith, q, t .right-known .children i (omega arith));
-          same = ap (root cs) p ∙ t .joins i (omega arith) ∙ ap (root cs) (sym q);
-        },
-      ),
-    )
+path-cost-requires : tie.Need-path-cost-requires Inv-loop μ-loop
+path-cost-requires c κs =
+    let t = c .before .before in
+    let p = t .before .before .before .before .pre in
+    let i = t .before .loop .i in
+    let x = c .before .child-of .ensures in
+    let y = c .child-of2 .ensures in
+    record {
+      conns = p .conns;
+      nodes = _;
+      charged = p .charged;
+      left-in = omega (arith, x, p .left-in i (more t));
+      right-in = omega (arith, y, p .right-in i (more t));
+      same = ap (root (p .conns)) x ∙ p .joins i (more t) ∙ ap (root (p .conns)) (sym y);
+    }
+
+-- what the next pair costs, by any connections that the rows stand for
+pair : (c : tie.After-path-cost Inv-loop μ-loop) →
+    let t = c .before .before .before in
+    let a = t .before .before .before .before .args in
+    let i = t .before .loop .i in
+    (cs : List Connection) → Climbs cs (nodesIn (a .nodes .now)) (a .rows .now) →
+    c .path-cost .result ≡ held (weigh (a .rows .now) cs (childIn (a .nodes .now) (a .a .0) i) (childIn (a .nodes .now) (a .b .0) i))
+pair c = λ cs k.
+    let t = c .before .before .before in
+    let s = t .before .before .before .before in
+    let i = t .before .loop .i in
+    let x = c .before .before .child-of .ensures in
+    let y = c .before .child-of2 .ensures in
+    c .path-cost .ensures cs _ k (omega (arith, x, s .pre .left-in i (more t))) (omega (arith, y, s .pre .right-in i (more t)))
+    ∙ ap held (ap₂ (weigh (s .args .rows .now) cs) x y)
 
 capped-requires : tie.Need-capped-requires Inv-loop μ-loop
-capped-requires c κs = (c .before .before .before .before .loop .inv .1 .small, omega (arith, c .way .ensures))
+capped-requires c κs =
+    let l = c .before .before .before .before in
+    let p = l .before .before .before .pre in
+    (sums l .small, omega (arith, pair c (p .conns) (p .charged .climbs)))
 
 add-i : tie.Need-add-i Inv-loop μ-loop
-add-i c = search needs
+add-i c = omega (arith, more (c .before .before .before .before))
 
 loop-less : tie.Need-loop-less Inv-loop μ-loop
-loop-less c = search needs
+loop-less c = omega arith
 
 loop-again : tie.Need-loop-again Inv-loop μ-loop
 loop-again c =
-    let s = c .before .before .before .before .before .before .before .before .before .before .before .args in
-    let f = weigh (s .costs .now) (oldest (s .age) (s .conns .now)) in (
-      c .before .before .before .before .before .loop .inv .0,
-      sums-next (c .before .before .before .before .before .loop .inv .1) (omega arith)
-          (c .before .way .ensures ∙ ap held (ap₂ f (c .before .before .before .child-of .ensures) (c .before .before .child-of2 .ensures)))
-          (c .capped .ensures),
-    )
+    let t = c .before .before .before .before in
+    let l = t .before .loop in
+    (l .inv .0, λ cs k. sums-next (l .inv .1 cs k) (more t) (pair (c .before) cs k) (c .capped .ensures))
 
 returns : tie.Need-returns Inv-loop μ-loop
-returns c =
-    let s = c .before .before .before .before .before .before .before .args in
-    sums-done (c .before .loop .inv .1) (omega arith)
-    ∙ ap (λ (k : ℕ). held (sumPairs (weigh (s .costs .now) (oldest (s .age) (s .conns .now))) (childrenIn (s .nodes .now) (s .a .0)) (wordsFrom (s .nodes .now) (s .b .0 * 10 + 2) k)))
-    (c .before .before .before .before .before .before .before .pre .1 .1 .1 .even)
+returns c = λ cs k.
+    let l = c .before in
+    let s = l .before .before .before in
+    let a = s .args in
+    sums-done (l .loop .inv .1 cs k) (omega arith)
+    ∙ ap (λ (x : ℕ). held (sumPairs (weigh (a .rows .now) cs) (childrenIn (a .nodes .now) (a .a .0)) (wordsFrom (a .nodes .now) (a .b .0 * nodeWords + childrenAt) x)))
+    (s .pre .even)
 
 pub children-cost-spec : {M : Type 1} → statement M
 children-cost-spec =
@@ -91,7 +122,7 @@ children-cost-spec =
     loop-holds
     child-of-requires
     child-of-requires-2
-    way-requires
+    path-cost-requires
     capped-requires
     add-i
     loop-less

@@ -1,57 +1,57 @@
--- `costs::distance` meets its contract: the sum over the path by the filled table of costs is the distance, both held at the cap.
+-- `costs::distance` meets its contract: the sum over the path by the rows' costs is the distance, both held at the cap.
 use borrow.Author.Needs.{needs}
 use native.Mathlib.Omega.{arith}
-use Prim.Native.Nat.{ℕ}
-use mathlib.Core.Path.{sym, ap, _∙_, subst}
-use mathlib.Core.List.{List}
+use Prim.Native.Nat.{_/_}
+use mathlib.Core.Path.{_∙_}
 use lib.ListN.{length}
-use Rattle.entries.specs.Connections.{oldest}
-use Rattle.costs.specs.Costs.{held, weigh, filled, Filled, nodesOf}
-use Rattle.costs.proofs.Weighed.{length-filled, filled-each, filled-priced, weigh-dist}
+use Rattle.entries.specs.Nodes.{nodesOf}
+use Rattle.model.specs.Tables.{connectionWords}
+use Rattle.forest.specs.Rows.{listed}
+use Rattle.costs.specs.Costs.{Charged, Filled, nodesIn}
+use Rattle.costs.proofs.Priced.{charged-priced, filled-priced, weigh-dist}
 use Rattle.costs.proofs.distance.Statement.{statement}
 use Rattle.costs.proofs.distance.Tie as tie
 
--- what the table holds once it is filled
-full : (c : tie.Start) →
-    let a = c .args in
-    Filled (nodesOf (a .nodes .now)) (a .conns .now)
-    (filled (nodesOf (a .nodes .now)) (a .conns .now) (a .count) (a .costs .now)) (a .count)
-full c = filled-each _ _ _ _ (c .pre .1 .1 .0)
+-- what stands in the rows once they hold the costs
+charged : (c : tie.After-fill-costs) →
+    let a = c .before .before .before .before .args in
+    Charged (listed (a .conns .now)) (nodesIn (a .nodes .now)) (c .fill-costs .last .1 .1 .0)
+charged c =
+    let s = c .before .before .before .before in
+    let r = s .pre .1 .0 .climbs .rooted in
+    rw (c .fill-costs .ensures)
+    (charged-priced (nodesOf (s .args .nodes .now)) (s .args .conns .now) (s .pre .1 .0) _ (r .within) (r .forest) _ (omega arith))
+
+filled : (c : tie.After-fill-costs) →
+    let a = c .before .before .before .before .args in
+    Filled (nodesOf (a .nodes .now)) (a .conns .now) (c .fill-costs .last .1 .1 .0) (length (a .conns .now) / connectionWords)
+filled c =
+    let s = c .before .before .before .before in
+    let r = s .pre .1 .0 .climbs .rooted in
+    rw (c .fill-costs .ensures)
+    (filled-priced (nodesOf (s .args .nodes .now)) (s .args .conns .now) (s .pre .1 .0) _ (r .within) (r .forest) _ (omega arith))
 
 fill-costs-requires : tie.Need-fill-costs-requires
-fill-costs-requires c κs = search needs
+fill-costs-requires c κs = let s = c .before .before .before in (s .pre .0, s .pre .1 .0)
 
-way-requires : tie.Need-way-requires
-way-requires c κs =
-    let s = c .before .before .before .before .before .before .before .before .before in
-    let e = c .before .before .before .fill-costs .ensures in (
-      s .pre .0,
-      (
-        filled-priced
-            (omega (arith, ap length e, length-filled (nodesOf (s .args .nodes .now)) (s .args .conns .now) (s .args .count) (s .args .costs .now), s .pre .1 .1 .0))
-            (subst (λ (t : List ℕ). Filled (nodesOf (s .args .nodes .now)) (s .args .conns .now) t (s .args .count)) (sym e) (full s)),
-        s .pre .1 .1 .1,
-      ),
-    )
+path-cost-requires : tie.Need-path-cost-requires
+path-cost-requires c κs =
+    let f = c .before in
+    let p = f .before .before .before .before .pre .1 .1 in
+    record { conns = _; nodes = _; charged = charged f; left-in = p .left-in; right-in = p .right-in; same = p .same }
 
 wide-requires : tie.Need-wide-requires
 wide-requires c κs = search needs
 
-same-length : tie.Need-same-length
-same-length c = search needs
-
 returns : tie.Need-returns
 returns c =
-    let s = c .before .before .before .before .before .before .before .before .before .before .before in
-    let a = s .args in
-    let e = c .before .before .before .before .before .fill-costs .ensures in (
-      c .wide .ensures ∙ c .before .way .ensures
-          ∙ ap (λ (t : List ℕ). held (weigh t (oldest (a .count) (a .conns .now)) (a .left .0) (a .right .0))) e
-          ∙ weigh-dist (nodesOf (a .nodes .now)) (a .conns .now)
-          (filled (nodesOf (a .nodes .now)) (a .conns .now) (a .count) (a .costs .now)) (a .count) (a .left .0) (a .right .0) (full s),
-      e,
+    let f = c .before .before .before in
+    let s = f .before .before .before .before in
+    let p = s .pre .1 .1 in (
+      c .wide .ensures ∙ c .before .path-cost .ensures (listed (s .args .conns .now)) _ (charged f .climbs) (p .left-in) (p .right-in)
+          ∙ weigh-dist (nodesOf (s .args .nodes .now)) (s .args .conns .now) _ _ _ _ (filled f),
+      f .fill-costs .ensures,
     )
 
 pub distance-spec : {M : Type 1} → statement M
-distance-spec =
-    tie.close (tie.spec fill-costs-requires way-requires wide-requires same-length returns)
+distance-spec = tie.close (tie.spec fill-costs-requires path-cost-requires wide-requires returns)

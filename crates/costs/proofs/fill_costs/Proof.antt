@@ -1,49 +1,79 @@
 -- `costs::fill_costs` meets its contract: the costs of the connections passed are written, each from those before it.
 use native.Mathlib.Omega.{arith}
-use Prim.Native.Nat.{ℕ, _-_, _≤_}
-use mathlib.Core.Path.{_≡_, sym, ap, _∙_, subst}
+use Prim.Native.Nat.{ℕ, _*_, _+_, _-_, _/_, _≤_}
 use mathlib.Core.List.{List}
+use mathlib.Core.Path.{_≡_, ap, _∙_}
 use lib.ListN.{length, set}
-use Rattle.costs.specs.Costs.{filled, Filled, nodesOf}
-use Rattle.costs.proofs.Weighed.{length-filled, filled-each, filled-none, filled-more}
+use Rattle.model.specs.declared.Connection.{Connection}
+use Rattle.model.specs.Forest.{cur, nxt, costBy}
+use Rattle.entries.specs.Nodes.{nodesOf}
+use Rattle.model.specs.Tables.{connectionWords}
+use Rattle.forest.specs.Rows.{costWord, listed, rowWords}
+use Rattle.costs.specs.Costs.{Charged, Filled, costAt, held, nodesIn, priced, weigh}
+use Rattle.costs.proofs.Payable.{pairs, payable}
+use Rattle.costs.proofs.Priced.{charged-priced, cost-by, filled-priced, priced-more, priced-none}
 use Rattle.costs.proofs.fill_costs.Statement.{statement}
 use Rattle.costs.proofs.fill_costs.Tie as tie
 
 abbrev Inv-loop : tie.InvT-loop
-Inv-loop nodes parents conns count costs₀ age₀ costs age = (age ≤ count) × (costs ≡ filled (nodesOf nodes) conns age costs₀)
+Inv-loop nodes conns rows₀ count age₀ rows age = (age ≤ count) × (rows ≡ priced (nodesOf nodes) conns age rows₀)
 
 abbrev μ-loop : tie.MeasureT-loop
-μ-loop nodes parents conns count costs₀ age₀ costs age = count - age
+μ-loop nodes conns rows₀ count age₀ rows age = count - age
 
--- the table keeps its length
-long : (c : tie.At-loop Inv-loop μ-loop) → length (c .loop .costs) ≡ length (c .before .before .before .before .before .args .costs .now)
-long c = ap length (c .loop .inv .1) ∙ length-filled _ _ _ _
+-- what stands in the rows so far
+charged : (c : tie.At-loop Inv-loop μ-loop) →
+    let a = c .before .before .before .args in
+    Charged (listed (a .conns .now)) (nodesIn (a .nodes .now)) (c .loop .rows)
+charged c =
+    let s = c .before .before .before in
+    let r = s .pre .1 .climbs .rooted in
+    rw (c .loop .inv .1)
+    (charged-priced (nodesOf (s .args .nodes .now)) (s .args .conns .now) (s .pre .1) _ (r .within) (r .forest) (c .loop .age) (c .loop .inv .0))
+
+filled : (c : tie.At-loop Inv-loop μ-loop) →
+    let a = c .before .before .before .args in
+    Filled (nodesOf (a .nodes .now)) (a .conns .now) (c .loop .rows) (c .loop .age)
+filled c =
+    let s = c .before .before .before in
+    let r = s .pre .1 .climbs .rooted in
+    rw (c .loop .inv .1)
+    (filled-priced (nodesOf (s .args .nodes .now)) (s .args .conns .now) (s .pre .1) _ (r .within) (r .forest) (c .loop .age) (c .loop .inv .0))
+
+-- the cost that is computed is the connection's
+cost : (c : tie.After-connection-cost Inv-loop μ-loop) →
+    let t = c .before .before .before in
+    let a = t .before .before .before .before .args in
+    c .connection-cost .result ≡ held (costAt (nodesOf (a .nodes .now)) (a .conns .now) (t .before .loop .age))
+cost c =
+    let t = c .before .before .before in
+    let l = t .before in
+    let s = l .before .before .before in
+    let ns = nodesOf (s .args .nodes .now) in
+    let d = weigh (l .loop .rows) (listed (s .args .conns .now)) in
+    c .connection-cost .ensures (listed (s .args .conns .now)) (charged l .climbs)
+    ∙ ap (λ (x : Connection). held (costBy ns d (x .why) (cur x) (nxt x))) (c .before .before .connection-at .ensures)
+    ∙ cost-by ns (s .args .conns .now) (l .loop .rows) (l .loop .age) (length (s .args .conns .now) / connectionWords) (omega arith) (filled l)
+    (pairs (s .pre .0) (l .loop .age) (t .loop-test .taken))
 
 loop-holds : tie.Need-loop-holds Inv-loop μ-loop
-loop-holds c = (omega arith, filled-none _ _ _)
+loop-holds c = (omega arith, priced-none _ _ _)
 
-cost-of-requires : tie.Need-cost-of-requires Inv-loop μ-loop
-cost-of-requires c κs =
-    let s = c .before .before .before .before .before .before .before in
-    let l = c .before .before .loop in
-    let f =
-    filled-each (nodesOf (s .args .nodes .now)) (s .args .conns .now) (l .age) (s .args .costs .now) (omega (arith, s .pre .1 .1)) in (
-      s .pre .0,
-      (
-        s .pre .1 .0,
-        (
-          (omega arith, omega (arith, long (c .before .before), s .pre .1 .1)),
-          subst (λ (t : List ℕ). Filled (nodesOf (s .args .nodes .now)) (s .args .conns .now) t (l .age)) (sym (l .inv .1)) f,
-        ),
-      ),
-    )
+connection-at-requires : tie.Need-connection-at-requires Inv-loop μ-loop
+connection-at-requires c κs = omega arith
 
-mul-costs : tie.Need-mul-costs Inv-loop μ-loop
-mul-costs c = omega (arith, long (c .before .before .before), c .before .before .before .before .before .before .before .before .pre .1 .1)
+connection-cost-requires : tie.Need-connection-cost-requires Inv-loop μ-loop
+connection-cost-requires c κs =
+    let t = c .before .before in
+    let l = t .before in
+    rw (c .before .connection-at .ensures) (payable (l .before .before .before .pre .0) (l .loop .age) (t .loop-test .taken) (l .loop .rows) (charged l))
 
-slice-write-costs : tie.Need-slice-write-costs Inv-loop μ-loop
-slice-write-costs c =
-    omega (arith, long (c .before .before .before), c .before .before .before .before .before .before .before .before .pre .1 .1)
+put-cost-requires : tie.Need-put-cost-requires Inv-loop μ-loop
+put-cost-requires c κs =
+    let t = c .before .before .before .before in
+    let l = t .before in
+    let p = payable (l .before .before .before .pre .0) (l .loop .age) (t .loop-test .taken) (l .loop .rows) (charged l) in
+    omega (arith, p .current-in, ap (λ (x : Connection). cur x) (c .before .before .before .connection-at .ensures), charged l .climbs .rooted .few)
 
 add-age : tie.Need-add-age Inv-loop μ-loop
 add-age c = omega arith
@@ -53,22 +83,22 @@ loop-less c = omega arith
 
 loop-again : tie.Need-loop-again Inv-loop μ-loop
 loop-again c =
-    let s = c .before .before .before .before .before .before .before .before .args in
-    let l = c .before .before .before .loop in (
+    let p = c .before .before in
+    let l = p .before .before .before .before in
+    let s = l .before .before .before in
+    let x = p .before .before .connection-at in (
       omega arith,
-      ap (λ (t : List ℕ). set t (l .age) (c .cost-of .result)) (l .inv .1)
-          ∙ filled-more (nodesOf (s .nodes .now)) (s .conns .now) (l .age) (s .costs .now) (c .cost-of .ensures),
+      c .put-cost .ensures
+          ∙ ap (λ (r : List ℕ). set r (cur (x .result) * rowWords + costWord) (p .connection-cost .result)) (l .loop .inv .1)
+          ∙ priced-more (nodesOf (s .args .nodes .now)) (s .args .conns .now) (l .loop .age) (s .args .rows .now) (x .result) _ (x .ensures) (cost p),
     )
-
-same-length : tie.Need-same-length Inv-loop μ-loop
-same-length c = long (c .before)
 
 returns : tie.Need-returns Inv-loop μ-loop
 returns c =
-    let s = c .before .before .before .before .before .before .args in
-    let l = c .before .loop in
-    let e : l .age ≡ s .count = omega arith in
-    l .inv .1 ∙ ap (λ (k : ℕ). filled (nodesOf (s .nodes .now)) (s .conns .now) k (s .costs .now)) e
+    let l = c .before in
+    let s = l .before .before .before .args in
+    let e : l .loop .age ≡ length (s .conns .now) / connectionWords = omega arith in
+    l .loop .inv .1 ∙ ap (λ (k : ℕ). priced (nodesOf (s .nodes .now)) (s .conns .now) k (s .rows .now)) e
 
 pub fill-costs-spec : {M : Type 1} → statement M
 fill-costs-spec =
@@ -77,11 +107,10 @@ fill-costs-spec =
     Inv-loop
     μ-loop
     loop-holds
-    cost-of-requires
-    mul-costs
-    slice-write-costs
+    connection-at-requires
+    connection-cost-requires
+    put-cost-requires
     add-age
     loop-less
     loop-again
-    same-length
     returns)

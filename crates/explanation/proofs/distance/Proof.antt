@@ -1,7 +1,7 @@
 -- `explanation::distance` meets its contract: bad tables give their number, good ones what is measured.
 -- Assumes nothing.
 use borrow.Author.Needs.{needs}
-use mathlib.Core.Path.{refl, sym, ap, _∙_}
+use mathlib.Core.Path.{sym, ap, _∙_}
 use Rattle.model.specs.Judged.{Judged}
 use Rattle.model.specs.Query.{Tables}
 use Rattle.model.specs.Tables.{judgeTables, measureBy}
@@ -10,11 +10,8 @@ use Rattle.explanation.proofs.Whole.{whole, unmeasured}
 use Rattle.explanation.proofs.distance.Statement.{statement}
 use Rattle.explanation.proofs.distance.Tie as tie
 
-slice-aggregate-judge-tables : tie.Need-slice-aggregate-judge-tables
-slice-aggregate-judge-tables c = search needs
-
 judge-tables-requires : tie.Need-judge-tables-requires
-judge-tables-requires c κs = refl
+judge-tables-requires c κs = search needs
 
 enum-known-judged : tie.Need-enum-known-judged
 enum-known-judged c = search needs
@@ -22,37 +19,32 @@ enum-known-judged c = search needs
 returns : tie.Need-returns
 returns c =
     let d = c .before in
-    let j = d .before .before .before in
-    let a = j .before .before .before .before .before .args in
-    unmeasured (judgeTables (a .nodes .now) (a .rules .now) (a .connections .now)) (a .left .0) (a .right .0) _ (sym (d .judged .given .1) ∙ j .judge-tables .ensures .0)
+    let j = d .before .before in
+    let a = j .before .before .before .before .args in
+    unmeasured (judgeTables (a .nodes .now) (a .rules .now) (a .connections .now)) (a .left .0) (a .right .0) _
+    (sym (d .judged .given .1) ∙ j .judge-tables .ensures)
 
 enum-told : tie.Need-enum-told
 enum-told c = search needs
 
-slice-aggregate-measure : tie.Need-slice-aggregate-measure
-slice-aggregate-measure c = search needs
-
 -- the tables are accepted
-accepted : (c : tie.After-enum-told) → let a = c .before .before .before .before .before .before .before .before .args in
+accepted : (c : tie.After-enum-told) →
+    let a = c .before .before .before .before .before .before .args in
     Good (judgeTables (a .nodes .now) (a .rules .now) (a .connections .now))
-accepted c = taken-good _ (sym (c .enum-told .given .1) ∙ c .before .before .before .judge-tables .ensures .0)
+accepted c = taken-good _ (sym (c .enum-told .given .1) ∙ c .before .before .judge-tables .ensures)
 
 measure-requires : tie.Need-measure-requires
-measure-requires c κs =
-    let d = c .before in
-    let g = accepted d in
-    let w = whole _ _ _ _ (g .what) (g .is) (d .before .before .before .judge-tables .ensures .1) in
-    (w .nodes-whole, w .connections-whole)
+measure-requires c κs = let g = accepted c in whole _ _ _ (g .what) (g .is) .support
 
 returns-2 : tie.Need-returns-2
 returns-2 c =
-    let d = c .before .before in
-    let a = d .before .before .before .before .before .before .before .before .args in
+    let d = c .before in
+    let a = d .before .before .before .before .before .before .args in
     let g = accepted d in
-    let w = whole _ _ _ _ (g .what) (g .is) (d .before .before .before .judge-tables .ensures .1) in
+    let w = whole _ _ _ (g .what) (g .is) in
     c .measure .ensures (g .what) (w .nodes) (w .conns) ∙ sym (ap (λ (j : Judged Tables). measureBy j (a .left .0) (a .right .0)) (g .is))
 
 pub distance-spec : {M : Type 1} → statement M
 distance-spec =
     tie.close
-    (tie.spec slice-aggregate-judge-tables judge-tables-requires enum-known-judged returns enum-told slice-aggregate-measure measure-requires returns-2)
+    (tie.spec judge-tables-requires enum-known-judged returns enum-told measure-requires returns-2)

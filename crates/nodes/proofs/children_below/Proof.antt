@@ -41,7 +41,8 @@ wide-requires-2 c κs = search needs
 
 returns : tie.Need-returns Inv-loop μ-loop
 returns c =
-    let i = c .before .before .before .before .loop .inv in
+    let at-loop = c .before .before .before .before in
+    let i = at-loop .loop .inv in
     lower-off (i .1) (omega arith) (omega (arith, c .before .wide2 .ensures, c .before .before .word2 .ensures))
 
 add-i : tie.Need-add-i Inv-loop μ-loop
@@ -52,7 +53,8 @@ loop-less c = search needs
 
 loop-again : tie.Need-loop-again Inv-loop μ-loop
 loop-again c =
-    let i = c .before .before .before .before .loop .inv in
+    let at-loop = c .before .before .before .before in
+    let i = at-loop .loop .inv in
     (i .0, lower-next (i .1) (omega arith) (omega (arith, c .before .wide2 .ensures, c .before .before .word2 .ensures)))
 
 returns-2 : tie.Need-returns-2 Inv-loop μ-loop

@@ -31,27 +31,37 @@ returns-2 c = node-wide _ _ _ (c .before .before .if1 .left) (omega (arith, c .b
 
 returns-3 : tie.Need-returns-3
 returns-3 c =
-    let s = c .before .before .before .before .before .args in
-    node-many _ _ _ (c .before .before .before .if1 .left) (omega (arith, c .before .before .word .ensures))
+    let at-if1 = c .before .before .before in
+    let at-start = at-if1 .before .before in
+    let s = at-start .args in
+    node-many _ _ _ (at-if1 .if1 .left) (omega (arith, c .before .before .word .ensures))
     (omega (arith, length-nodes (s .n) (s .nodes .now)))
 
 children-below-requires : tie.Need-children-below-requires
 children-below-requires c κs =
-    (c .before .before .before .before .before .pre, c .before .before .before .if1 .left, omega (arith, c .before .before .word .ensures))
+    let at-if1 = c .before .before .before in
+    let at-start = at-if1 .before .before in
+    (at-start .pre, at-if1 .if1 .left, omega (arith, c .before .before .word .ensures))
 
 returns-4 : tie.Need-returns-4
 returns-4 c =
-    let s = c .before .before .before .before .before .before .before .args in
-    node-lower _ _ _ (c .before .before .before .before .before .if1 .left)
-    (omega (arith, c .before .before .before .before .word .ensures)) (omega (arith, length-nodes (s .n) (s .nodes .now))) true
+    let at-word = c .before .before .before .before in
+    let at-if1 = at-word .before in
+    let at-start = at-if1 .before .before in
+    let s = at-start .args in
+    node-lower _ _ _ (at-if1 .if1 .left)
+    (omega (arith, at-word .word .ensures)) (omega (arith, length-nodes (s .n) (s .nodes .now))) true
     (ap (λ (m : ℕ). allBelow m (childrenIn (s .nodes .now) (s .n))) (length-nodes (s .n) (s .nodes .now))
     ∙ sym (c .before .children-below .ensures) ∙ c .if4 .taken)
 
 returns-5 : tie.Need-returns-5
 returns-5 c =
-    let s = c .before .before .before .before .before .before .before .args in
-    node-lower _ _ _ (c .before .before .before .before .before .if1 .left)
-    (omega (arith, c .before .before .before .before .word .ensures)) (omega (arith, length-nodes (s .n) (s .nodes .now))) false
+    let at-word = c .before .before .before .before in
+    let at-if1 = at-word .before in
+    let at-start = at-if1 .before .before in
+    let s = at-start .args in
+    node-lower _ _ _ (at-if1 .if1 .left)
+    (omega (arith, at-word .word .ensures)) (omega (arith, length-nodes (s .n) (s .nodes .now))) false
     (ap (λ (m : ℕ). allBelow m (childrenIn (s .nodes .now) (s .n))) (length-nodes (s .n) (s .nodes .now))
     ∙ sym (c .before .children-below .ensures) ∙ c .if4 .left)
 

@@ -36,23 +36,29 @@ enum-known-judged c = search needs
 
 returns : tie.Need-returns Inv-loop μ-loop
 returns c =
-    let l = c .before .before .before .before .before .loop in
+    let at-judge-node = c .before .before .before in
+    let at-loop-test = at-judge-node .before in
+    let at-loop = at-loop-test .before in
+    let l = at-loop .loop in
     let j = c .before .judged .given in
-    let e = c .before .before .before .judge-node .ensures in
-    ap judgementOf (sym (node-bad _ _ (j .0 .0) (l .inv) (c .before .before .before .before .loop-test .taken) (sym (j .1) ∙ e)))
+    let e = at-judge-node .judge-node .ensures in
+    ap judgementOf (sym (node-bad _ _ (j .0 .0) (l .inv) (at-loop-test .loop-test .taken) (sym (j .1) ∙ e)))
 
 enum-told : tie.Need-enum-told Inv-loop μ-loop
 enum-told c = search needs
 
 add-n : tie.Need-add-n Inv-loop μ-loop
-add-n c = omega (arith, few (c .before .before .before .before))
+add-n c =
+    let at-loop = c .before .before .before .before in
+    omega (arith, few (at-loop))
 
 loop-less : tie.Need-loop-less Inv-loop μ-loop
 loop-less c = omega arith
 
 loop-again : tie.Need-loop-again Inv-loop μ-loop
 loop-again c =
-    let l = c .before .before .before .before .loop in
+    let at-loop = c .before .before .before .before in
+    let l = at-loop .loop in
     let t = c .enum-told .given .1 in
     rw add-one (node-more _ _ (l .inv) (sym t ∙ c .before .before .judge-node .ensures))
 
