@@ -1,11 +1,8 @@
--- No second outcome fits: for the one public function, two results that meet its contract are equal.
--- Assumes nothing.
-use Prim.Native.Nat.{ℕ}
-use mathlib.Core.List.{List}
+-- No second outcome fits: two results that meet the public contract of this crate, for the same arguments, are equal.
 use mathlib.Core.Path.{_≡_, sym, _∙_}
+use contract.Lifetimes.{Lfts}
 use Rattle.model.specs.declared.Verdict.{Verdict}
-use Rattle.rule_table.specs.Entries.{AcceptedRules}
-use Rattle.checker.specs.Check.{VerdictIs}
+use Rattle.checker.proofs.check.Reads as check
 
-pub check-only : (rws ws : List ℕ) → AcceptedRules rws → (r s : Verdict) → VerdictIs rws ws r → VerdictIs rws ws s → r ≡ s
-check-only rws ws h r s a b = a (h .rules) (h .are) ∙ sym (b (h .rules) (h .are))
+check-only : (κs : Lfts 2) (a s s′ : _) (r r′ : Verdict) → check.Pre κs a → check.Post κs a r s → check.Post κs a r′ s′ → r ≡ r′
+check-only κs a s s′ r r′ w p q = p (w .rules) (w .are) ∙ sym (q (w .rules) (w .are))

@@ -1,19 +1,18 @@
--- No second outcome fits: for each public function, two results that meet its contract are equal.
--- Assumes nothing.
-use Prim.Native.Nat.{ℕ}
+-- No second outcome fits: two results that meet a public contract of this crate, for the same arguments, are equal.
 use mathlib.Core.Bool.{Bool}
-use mathlib.Core.List.{List}
 use mathlib.Core.Path.{_≡_, sym, _∙_}
-use Rattle.terms.specs.Place.{Well}
+use contract.Lifetimes.{Lfts}
 use Rattle.marks.specs.declared.Directions.{Directions}
-use Rattle.marks.specs.Marks.{HasRow, DirectionsAre, MarkedIs, NestedIs}
+use Rattle.marks.proofs.directions_in.Reads as directions-in
+use Rattle.marks.proofs.marked.Reads as marked
+use Rattle.marks.proofs.nested_in.Reads as nested-in
 
-pub directions-in-only : (ws : List ℕ) (at n : ℕ) → HasRow ws at n
-    → (r s : Directions) → DirectionsAre ws at n r → DirectionsAre ws at n s → r ≡ s
-directions-in-only ws at n h r s a b = a (h .terms) (h .is) ∙ sym (b (h .terms) (h .is))
+directions-in-only : (κs : Lfts 1) (a s s′ : _) (r r′ : Directions)
+    → directions-in.Pre κs a → directions-in.Post κs a r s → directions-in.Post κs a r′ s′ → r ≡ r′
+directions-in-only κs a s s′ r r′ w p q = p (w .terms) (w .is) ∙ sym (q (w .terms) (w .is))
 
-pub marked-only : (ws : List ℕ) (at n : ℕ) → HasRow ws at n → (r s : Bool) → MarkedIs ws at n r → MarkedIs ws at n s → r ≡ s
-marked-only ws at n h r s a b = a (h .terms) (h .is) ∙ sym (b (h .terms) (h .is))
+marked-only : (κs : Lfts 1) (a s s′ : _) (r r′ : Bool) → marked.Pre κs a → marked.Post κs a r s → marked.Post κs a r′ s′ → r ≡ r′
+marked-only κs a s s′ r r′ w p q = p (w .terms) (w .is) ∙ sym (q (w .terms) (w .is))
 
-pub nested-in-only : (ws : List ℕ) (at : ℕ) → Well ws at → (r s : Bool) → NestedIs ws at r → NestedIs ws at s → r ≡ s
-nested-in-only ws at w r s a b = a (w .end) (w .term) (w .is) ∙ sym (b (w .end) (w .term) (w .is))
+nested-in-only : (κs : Lfts 1) (a s s′ : _) (r r′ : Bool) → nested-in.Pre κs a → nested-in.Post κs a r s → nested-in.Post κs a r′ s′ → r ≡ r′
+nested-in-only κs a s s′ r r′ w p q = p (w .end) (w .term) (w .is) ∙ sym (q (w .end) (w .term) (w .is))

@@ -1,31 +1,32 @@
--- No second outcome fits: for each public function, two results that meet its contract are equal.
--- Assumes nothing.
-use Prim.Native.Nat.{ℕ}
-use mathlib.Core.List.{List}
+-- No second outcome fits: two results that meet a public contract of this crate, for the same arguments, are equal.
 use mathlib.Core.Path.{_≡_, sym, _∙_}
+use contract.Lifetimes.{Lfts}
+use denote.Ref.{now}
 use Rattle.model.specs.declared.Judgement.{Judgement}
-use Rattle.model.specs.Judged.{judgementOf}
-use Rattle.model.specs.Tables.{ruleTable}
 use Rattle.rule_table.specs.declared.Listed.{Listed}
 use Rattle.rule_table.specs.declared.Slot.{Slot}
-use Rattle.rule_table.specs.Slots.{itemAt, slotOf}
-use Rattle.rule_table.specs.Entries.{entryOf, withEntry, whereListed, leftSlots, rightSlots}
+use Rattle.rule_table.proofs.find_rule.Reads as find-rule
+use Rattle.rule_table.proofs.left_side.Reads as left-side
+use Rattle.rule_table.proofs.right_side.Reads as right-side
+use Rattle.rule_table.proofs.slot_at.Reads as slot-at
+use Rattle.rule_table.proofs.judge_rule.Reads as judge-rule
+use Rattle.rule_table.proofs.judge_rules.Reads as judge-rules
 
-pub find-rule-only : (ws : List ℕ) (x : ℕ) (r s : Listed) → r ≡ whereListed ws x → s ≡ whereListed ws x → r ≡ s
-find-rule-only ws x r s a b = a ∙ sym b
+find-rule-only : (κs : Lfts 1) (a s s′ : _) (r r′ : Listed) → find-rule.Post κs a r s → find-rule.Post κs a r′ s′ → r ≡ r′
+find-rule-only κs a s s′ r r′ p q = p ∙ sym q
 
-pub left-side-only : (ws : List ℕ) (i : ℕ) (r s : List ℕ) → r ≡ leftSlots ws i → s ≡ leftSlots ws i → r ≡ s
-left-side-only ws i r s a b = a ∙ sym b
+-- the slots that are handed out
+left-side-only : (κs : Lfts 1) (a s s′ r r′ : _) → left-side.Post κs a r s → left-side.Post κs a r′ s′ → now r ≡ now r′
+left-side-only κs a s s′ r r′ p q = p ∙ sym q
 
-pub right-side-only : (ws : List ℕ) (i : ℕ) (r s : List ℕ) → r ≡ rightSlots ws i → s ≡ rightSlots ws i → r ≡ s
-right-side-only ws i r s a b = a ∙ sym b
+right-side-only : (κs : Lfts 1) (a s s′ r r′ : _) → right-side.Post κs a r s → right-side.Post κs a r′ s′ → now r ≡ now r′
+right-side-only κs a s s′ r r′ p q = p ∙ sym q
 
-pub slot-at-only : (ps : List ℕ) (at : ℕ) (r s : Slot) → r ≡ slotOf (itemAt ps at) → s ≡ slotOf (itemAt ps at) → r ≡ s
-slot-at-only ps at r s a b = a ∙ sym b
+slot-at-only : (κs : Lfts 1) (a s s′ : _) (r r′ : Slot) → slot-at.Post κs a r s → slot-at.Post κs a r′ s′ → r ≡ r′
+slot-at-only κs a s s′ r r′ p q = p ∙ sym q
 
-pub judge-rule-only : (ws es : List ℕ) (r s : Judgement) → r ≡ judgementOf (withEntry ws (entryOf es))
-    → s ≡ judgementOf (withEntry ws (entryOf es)) → r ≡ s
-judge-rule-only ws es r s a b = a ∙ sym b
+judge-rule-only : (κs : Lfts 2) (a s s′ : _) (r r′ : Judgement) → judge-rule.Post κs a r s → judge-rule.Post κs a r′ s′ → r ≡ r′
+judge-rule-only κs a s s′ r r′ p q = p ∙ sym q
 
-pub judge-rules-only : (ws : List ℕ) (r s : Judgement) → r ≡ judgementOf (ruleTable ws) → s ≡ judgementOf (ruleTable ws) → r ≡ s
-judge-rules-only ws r s a b = a ∙ sym b
+judge-rules-only : (κs : Lfts 1) (a s s′ : _) (r r′ : Judgement) → judge-rules.Post κs a r s → judge-rules.Post κs a r′ s′ → r ≡ r′
+judge-rules-only κs a s s′ r r′ p q = p ∙ sym q

@@ -1,24 +1,26 @@
--- No second outcome fits: for each public function, two results that meet its contract are equal.
--- Assumes nothing.
+-- No second outcome fits: two results that meet a public contract of this crate, for the same arguments, are equal.
 use Prim.Native.Nat.{ℕ}
-use mathlib.Core.List.{List}
 use mathlib.Core.Bool.{Bool, true, false}
 use mathlib.Core.Path.{_≡_, refl, sym, _∙_}
-use Rattle.model.specs.Term.{read}
+use contract.Lifetimes.{Lfts}
 use Rattle.terms.specs.declared.TreeNode.{TreeNode}
 use Rattle.terms.specs.declared.WholeTerms.{WholeTerms}
-use Rattle.terms.specs.Place.{nodeOf, sameHead, Decides, Well, EndsAt, SameIs}
-use Rattle.terms.specs.Whole.{wholeOf}
+use Rattle.terms.specs.Place.{Decides}
 use Rattle.terms.proofs.Place.{end-same}
+use Rattle.terms.proofs.node_at.Reads as node-at
+use Rattle.terms.proofs.same_head.Reads as same-head
+use Rattle.terms.proofs.end_of.Reads as end-of
+use Rattle.terms.proofs.same_term.Reads as same-term
+use Rattle.terms.proofs.whole_terms.Reads as whole-terms
 
-pub node-at-only : (ws : List ℕ) (at : ℕ) (r s : TreeNode) → r ≡ nodeOf ws at → s ≡ nodeOf ws at → r ≡ s
-node-at-only ws at r s a b = a ∙ sym b
+node-at-only : (κs : Lfts 1) (a s s′ : _) (r r′ : TreeNode) → node-at.Post κs a r s → node-at.Post κs a r′ s′ → r ≡ r′
+node-at-only κs a s s′ r r′ p q = p ∙ sym q
 
-pub same-head-only : (n : TreeNode) (o c : ℕ) (r s : Bool) → r ≡ sameHead n o c → s ≡ sameHead n o c → r ≡ s
-same-head-only n o c r s a b = a ∙ sym b
+same-head-only : (κs : Lfts 0) (a s s′ : _) (r r′ : Bool) → same-head.Post κs a r s → same-head.Post κs a r′ s′ → r ≡ r′
+same-head-only κs a s s′ r r′ p q = p ∙ sym q
 
-pub end-of-only : (ws : List ℕ) (at r s : ℕ) → EndsAt ws at r → EndsAt ws at s → r ≡ s
-end-of-only ws at r s a b = end-same ws at r s (a .term) (b .term) (a .is) (b .is)
+end-of-only : (κs : Lfts 1) (a s s′ : _) (r r′ : ℕ) → end-of.Post κs a r s → end-of.Post κs a r′ s′ → r ≡ r′
+end-of-only κs a s s′ r r′ p q = end-same _ _ r r′ (p .term) (q .term) (p .is) (q .is)
 
 -- a fact has one answer
 pub one-answer : (r s : Bool) (P : Type 0) → Decides r P → Decides s P → r ≡ s
@@ -27,8 +29,8 @@ one-answer false false P a b = refl
 one-answer true false P a b = absurd (b a)
 one-answer false true P a b = absurd (a b)
 
-pub same-term-only : (ws : List ℕ) (a b : ℕ) → Well ws a → Well ws b → (r s : Bool) → SameIs ws a b r → SameIs ws a b s → r ≡ s
-same-term-only ws a b v w r s x y = one-answer r s _ (x _ _ _ _ (v .is) (w .is)) (y _ _ _ _ (v .is) (w .is))
+same-term-only : (κs : Lfts 1) (a s s′ : _) (r r′ : Bool) → same-term.Pre κs a → same-term.Post κs a r s → same-term.Post κs a r′ s′ → r ≡ r′
+same-term-only κs a s s′ r r′ w p q = one-answer r r′ _ (p _ _ _ _ (w .0 .is) (w .1 .is)) (q _ _ _ _ (w .0 .is) (w .1 .is))
 
-pub whole-terms-only : (ws : List ℕ) (r s : WholeTerms) → r ≡ wholeOf (read ws) → s ≡ wholeOf (read ws) → r ≡ s
-whole-terms-only ws r s a b = a ∙ sym b
+whole-terms-only : (κs : Lfts 1) (a s s′ : _) (r r′ : WholeTerms) → whole-terms.Post κs a r s → whole-terms.Post κs a r′ s′ → r ≡ r′
+whole-terms-only κs a s s′ r r′ p q = p ∙ sym q
