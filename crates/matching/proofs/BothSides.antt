@@ -2,7 +2,6 @@
 -- Assumes nothing.
 use Prim.Native.Nat.{ℕ, _<_}
 use mathlib.Core.List.{List}
-use mathlib.Core.Bool.{Bool, true, false}
 use mathlib.Core.Path.{_≡_, refl, ap, subst}
 use native.Mathlib.Omega.{arith}
 use native.Mathlib.Decide.{decLt}
@@ -14,11 +13,13 @@ use Rattle.model.specs.Term.{unmarked, noTerms, Term, one, stripped}
 use Rattle.model.specs.Pattern.{Patterns, Substitution, Instance, fits}
 use Rattle.terms.specs.Place.{TermAt, Well, Decides}
 use Rattle.terms.proofs.Place.{term-row, term-same}
-use Rattle.terms.proofs.Unique.{one-answer}
-use Rattle.matching.specs.declared.Matched.{Matched}
-use Rattle.matching.specs.Pattern.{PatternsAt, Side}
+use Rattle.terms.proofs.Only.{one-answer}
+use Rattle.matching.specs.declared.Fit.{Fit}
+use Rattle.matching.specs.declared.Fit.the-variants.{Fits, Off}
+use Rattle.matching.specs.declared.SideFit.{SideFit}
+use Rattle.rule_table.specs.Slots.{PatternsAt, Side}
 use Rattle.matching.proofs.Matching.{fits-decides}
-use Rattle.matching.specs.Match.{spanOf, IsBound, TermOf, Valid, Agrees, Rows, Fits, MatchOk, MatchIs, FitIs}
+use Rattle.matching.specs.Match.{isFit, spanOf, IsBound, TermOf, Valid, Agrees, Rows, SideMeans, MatchBy, MatchIs, FitIs}
 
 -- nothing is bound yet
 abbrev pub noneBound : Bindings
@@ -65,43 +66,37 @@ pub side-rows : (ps ws : List ℕ) (at : ℕ) (s : Side ps) (w : Well ws at) →
 side-rows ps ws at s w =
     record { patterns = s .pattern; terms = one (w .term); isP = s .is; isT = term-row ws at (w .end) (w .term) (w .is) }
 
-module _ (pl pr ws : List ℕ) (a b : ℕ) (m : Matched) (first : MatchIs pl 0 1 ws a noneBound m) where
-  pub fit-off : m .ok ≡ false → FitIs pl pr ws a b false
+module _ (pl pr ws : List ℕ) (a b : ℕ) (m : SideFit) (first : MatchIs pl 0 1 ws a noneBound m) where
+  pub fit-off : m .fit ≡ Off → FitIs pl pr ws a b Off
   fit-off ok l l′ hl hl′ e e′ t u ht hu i =
-      subst (λ (o : Bool). MatchOk o ws noneBound (m .bound) l (one t)) ok (first l (one t) hl (term-row ws a e t ht)) (i .σ)
+      subst (λ (o : Fit). MatchBy o ws noneBound (m .bound) l (one t)) ok (first l (one t) hl (term-row ws a e t ht)) (i .σ)
       (record { agrees = none-agrees ws (i .σ); makes = i .left })
 
-  left-fits : m .ok ≡ true → (l : Patterns) (e : ℕ) (t : Term) → PatternsAt pl 0 1 l → TermAt ws a e t
-      → Fits ws noneBound (m .bound) l (one t)
+  left-fits : m .fit ≡ Fits → (l : Patterns) (e : ℕ) (t : Term) → PatternsAt pl 0 1 l → TermAt ws a e t
+      → SideMeans ws noneBound (m .bound) l (one t)
   left-fits ok l e t hl ht =
-      subst (λ (o : Bool). MatchOk o ws noneBound (m .bound) l (one t)) ok (first l (one t) hl (term-row ws a e t ht))
+      subst (λ (o : Fit). MatchBy o ws noneBound (m .bound) l (one t)) ok (first l (one t) hl (term-row ws a e t ht))
 
-  pub left-valid : m .ok ≡ true → Side pl → Well ws a → Valid ws (m .bound)
+  pub left-valid : m .fit ≡ Fits → Side pl → Well ws a → Valid ws (m .bound)
   left-valid ok s w = left-fits ok (s .pattern) (w .end) (w .term) (s .is) (w .is) .valid
 
-  fit-go : (k : Matched) (o : Bool) (l l′ : Patterns) (t u : Term) → Fits ws noneBound (m .bound) l (one t)
-      → MatchOk o ws (m .bound) (k .bound) l′ (one u) → Decides o (Instance l l′ (one t) (one u))
-  fit-go k true l l′ t u f s =
+  fit-go : (k : SideFit) (o : Fit) (l l′ : Patterns) (t u : Term) → SideMeans ws noneBound (m .bound) l (one t)
+      → MatchBy o ws (m .bound) (k .bound) l′ (one u) → Decides (isFit o) (Instance l l′ (one t) (one u))
+  fit-go k Fits l l′ t u f s =
       let w = some-agrees ws (k .bound) (s .valid) in
       let y = s .same (w .σ) .0 (w .agrees) in
       record { σ = w .σ; left = f .same (w .σ) .0 (y .agrees) .makes; right = y .makes }
-  fit-go k false l l′ t u f s = λ i.
+  fit-go k Off l l′ t u f s = λ i.
       s (i .σ)
       (record { agrees = f .same (i .σ) .1 (record { agrees = none-agrees ws (i .σ); makes = i .left }); makes = i .right })
 
-  pub fit-on : m .ok ≡ true → (k : Matched) → MatchIs pr 0 1 ws b (m .bound) k → FitIs pl pr ws a b (k .ok)
+  pub fit-on : m .fit ≡ Fits → (k : SideFit) → MatchIs pr 0 1 ws b (m .bound) k → FitIs pl pr ws a b (k .fit)
   fit-on ok k second l l′ hl hl′ e e′ t u ht hu =
-      fit-go k (k .ok) l l′ t u (left-fits ok l e t hl ht) (second l′ (one u) hl′ (term-row ws b e′ u hu))
+      fit-go k (k .fit) l l′ t u (left-fits ok l e t hl ht) (second l′ (one u) hl′ (term-row ws b e′ u hu))
 
--- no second answer fits
-pub fit-once : (pl pr ws : List ℕ) (a b : ℕ) (r s : Bool) → Side pl → Side pr → Well ws a → Well ws b
-    → FitIs pl pr ws a b r → FitIs pl pr ws a b s → r ≡ s
-fit-once pl pr ws a b r s l l′ v w x y =
-    one-answer r s _ (x _ _ (l .is) (l′ .is) _ _ _ _ (v .is) (w .is)) (y _ _ (l .is) (l′ .is) _ _ _ _ (v .is) (w .is))
-
--- and it is the model's
-pub fit-is : (pl pr ws : List ℕ) (a b : ℕ) (r : Bool) → FitIs pl pr ws a b r → (l l′ : Patterns) → PatternsAt pl 0 1 l
+-- the answer is the model's
+pub fit-is : (pl pr ws : List ℕ) (a b : ℕ) (r : Fit) → FitIs pl pr ws a b r → (l l′ : Patterns) → PatternsAt pl 0 1 l
     → PatternsAt pr 0 1 l′
-    → (e e′ : ℕ) (t u : Term) → TermAt ws a e t → TermAt ws b e′ u → r ≡ fits l l′ (one t) (one u)
+    → (e e′ : ℕ) (t u : Term) → TermAt ws a e t → TermAt ws b e′ u → isFit r ≡ fits l l′ (one t) (one u)
 fit-is pl pr ws a b r h l l′ hl hl′ e e′ t u ht hu =
-    one-answer r (fits l l′ (one t) (one u)) _ (h l l′ hl hl′ e e′ t u ht hu) (fits-decides l l′ (one t) (one u))
+    one-answer (isFit r) (fits l l′ (one t) (one u)) _ (h l l′ hl hl′ e e′ t u ht hu) (fits-decides l l′ (one t) (one u))
