@@ -89,6 +89,9 @@ pub const TERM_LIMIT: usize = 4096;
 
 pub const WORD_LIMIT: usize = 1048576;
 
+// A proof's words: four a tree node.
+pub const FLAT_WORDS: usize = 4;
+
 // How many words an entry of each table has; specs/Tables.antt says which.
 pub const NODE_WORDS: usize = 10;
 

@@ -1,0 +1,9 @@
+pub mod Area
+pub mod Bare
+pub mod Around
+pub mod Copied
+pub mod Planted
+pub mod Grown
+pub mod Appended
+pub mod Filled
+pub mod Only
