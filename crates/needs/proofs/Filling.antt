@@ -94,6 +94,7 @@ module _ {nodes conns rows sizes : List ℕ} (w : Counts nodes conns rows sizes)
       record {
         few = w .support .table;
         sized = w .sized;
+        left-in = ends-in up .0;
         right-in = ends-in up .1;
         alike = go up;
       }

@@ -4,4 +4,5 @@ pub mod Runs
 pub mod Exact
 pub mod Filling
 pub mod Words
+pub mod Counted
 pub mod Only

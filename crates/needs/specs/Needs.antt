@@ -74,6 +74,7 @@ pub record Appends (cost need r : ℕ) : Type 0 where
 pub record Led (nodes rows sizes : List ℕ) (why : Justification) (a b : ℕ) : Type 0 where
   pub few : NodesStand nodes (nodesIn nodes)
   pub sized : Sized (nodesOf nodes) sizes (nodesIn nodes)
+  pub left-in : a < nodesIn nodes
   pub right-in : b < nodesIn nodes
   pub alike : why ≡ Congruence → Alike nodes rows a b
 

@@ -107,8 +107,9 @@ fn runs_need(
     let mut sum: usize = 0;
     let mut i: usize = 0;
     while i < n {
+        let x = child_of(nodes, a, i);
         let y = child_of(nodes, b, i);
-        let run = path_need(rows, ups, downs, child_of(nodes, a, i), y);
+        let run = path_need(rows, ups, downs, x, y);
         let around = before + sizes_from(nodes, sizes, a, i + 1);
         sum = held(sum + run.nodes + run.cost * around);
         before += size_of(sizes, y);

@@ -33,6 +33,10 @@ round c = c .before
 abbrev start : tie.At-loop Inv-loop μ-loop → tie.Start Inv-loop μ-loop
 start l = l .before .before .before
 
+-- and the connection from where both numbers are known
+abbrev asked : tie.After-connection-need2 Inv-loop μ-loop → tie.After-connection-at Inv-loop μ-loop
+asked c = c .before .before .before .before .before .before .before .before .before .before
+
 few : (t : tie.In-loop Inv-loop μ-loop) → t .before .loop .age < nodeLimit
 few t =
     let s = start (t .before) in
@@ -88,7 +92,7 @@ said-down : (c : tie.After-connection-need2 Inv-loop μ-loop) →
     let x = w .before .before .before .before in
     Said x false (c .connection-need2 .result) (w .wide .result) (x .connection-at .result)
 said-down c =
-    let s = start (round (c .before .before .before .before .before .before .before .before .before .before) .before) in
+    let s = start (round (asked c) .before) in
     c .connection-need2 .ensures (listed (s .args .conns .now)) (s .pre .0 .charged .climbs)
 
 loop-holds : tie.Need-loop-holds Inv-loop μ-loop
@@ -115,22 +119,22 @@ cast-ups : tie.Need-cast-ups Inv-loop μ-loop
 cast-ups c = omega (arith, said-up (c .before .before .before) .small)
 
 mul-ups : tie.Need-mul-ups Inv-loop μ-loop
-mul-ups c = omega (arith, few (round (c .before .before .before .before .before .before .before .before .before .before)))
+mul-ups c = omega (arith, few (round (asked c)))
 
 element-write-ups : tie.Need-element-write-ups Inv-loop μ-loop
-element-write-ups c = few (round (c .before .before .before .before .before .before .before .before .before .before))
+element-write-ups c = few (round (asked c))
 
 cast-downs : tie.Need-cast-downs Inv-loop μ-loop
 cast-downs c = omega (arith, said-down c .small)
 
 mul-downs : tie.Need-mul-downs Inv-loop μ-loop
-mul-downs c = omega (arith, few (round (c .before .before .before .before .before .before .before .before .before .before)))
+mul-downs c = omega (arith, few (round (asked c)))
 
 element-write-downs : tie.Need-element-write-downs Inv-loop μ-loop
-element-write-downs c = few (round (c .before .before .before .before .before .before .before .before .before .before))
+element-write-downs c = few (round (asked c))
 
 add-age : tie.Need-add-age Inv-loop μ-loop
-add-age c = omega (arith, few (round (c .before .before .before .before .before .before .before .before .before .before)))
+add-age c = omega (arith, few (round (asked c)))
 
 loop-less : tie.Need-loop-less Inv-loop μ-loop
 loop-less c = omega arith

@@ -66,8 +66,8 @@ pair c = λ cs k.
     let t = c .before .before .before in
     let s = start (t .before) in
     let i = t .before .loop .i in
-    let x = c .before .child-of2 .ensures in
-    let y = c .before .before .child-of .ensures in
+    let x = c .before .before .child-of .ensures in
+    let y = c .before .child-of2 .ensures in
     let r = c .path-need .ensures cs _ k (omega (arith, x, s .pre .left-in i (more t))) (omega (arith, y, s .pre .right-in i (more t))) in
     record {
       cost = r .cost ∙ ap heldNodes (ap₂ (weigh (s .args .rows .now) cs) x y);
@@ -113,18 +113,18 @@ loop-holds : tie.Need-loop-holds Inv-loop μ-loop
 loop-holds c = (c .count-of .ensures, λ cs k. runs-none _ _ _ _ _ _ _)
 
 child-of-requires : tie.Need-child-of-requires Inv-loop μ-loop
-child-of-requires c κs = (start (c .before) .pre .right-known .room, few c)
+child-of-requires c κs = (start (c .before) .pre .left-known .room, few c)
 
 child-of-requires-2 : tie.Need-child-of-requires-2 Inv-loop μ-loop
-child-of-requires-2 c κs = (start (c .before .before) .pre .left-known .room, few (c .before))
+child-of-requires-2 c κs = (start (c .before .before) .pre .right-known .room, few (c .before))
 
 path-need-requires : tie.Need-path-need-requires Inv-loop μ-loop
 path-need-requires c κs =
     let t = c .before .before in
     let p = start (t .before) .pre in
     let i = t .before .loop .i in
-    let x = c .child-of2 .ensures in
-    let y = c .before .child-of .ensures in
+    let x = c .before .child-of .ensures in
+    let y = c .child-of2 .ensures in
     record {
       conns = p .conns;
       nodes = _;
@@ -162,9 +162,9 @@ held-requires c κs = search needs
 
 size-of-requires : tie.Need-size-of-requires Inv-loop μ-loop
 size-of-requires c κs =
-    let y = c .before .before .before .before .before .before in
-    let t = y .before in
-    omega (arith, y .child-of .ensures, start (t .before) .pre .right-in (t .before .loop .i) (more t), start (t .before) .pre .charged .climbs .rooted .few)
+    let y = c .before .before .before .before .before in
+    let t = y .before .before in
+    omega (arith, y .child-of2 .ensures, start (t .before) .pre .right-in (t .before .loop .i) (more t), start (t .before) .pre .charged .climbs .rooted .few)
 
 add-before : tie.Need-add-before Inv-loop μ-loop
 add-before c =
@@ -182,13 +182,13 @@ loop-again c =
     let h = c .before in
     let f = h .before .before .before in
     let n = f .before in
-    let y = n .before .before in
-    let t = y .before in
+    let y = n .before in
+    let t = y .before .before in
     let l = t .before in
     let a = start l .args in (
       l .loop .inv .0,
       λ cs k. runs-next (l .loop .inv .1 cs k) _ _ _ _ _ (more t) (pair n cs k .cost) (pair n cs k .nodes) (around f)
-          (c .size-of .ensures .0 ∙ ap (λ (z : ℕ). getD (a .sizes .now) z 0) (y .child-of .ensures)) (c .size-of .ensures .1) (h .held .ensures),
+          (c .size-of .ensures .0 ∙ ap (λ (z : ℕ). getD (a .sizes .now) z 0) (y .child-of2 .ensures)) (c .size-of .ensures .1) (h .held .ensures),
     )
 
 returns : tie.Need-returns Inv-loop μ-loop
