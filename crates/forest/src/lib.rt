@@ -58,7 +58,7 @@ pub fn next_of(rows: &[u16; TABLE_WORDS], n: NodeNo) -> NodeNo
 }
 
 // The age of n's parent connection, and 1; 0 where it has none.
-fn age_of(rows: &[u16; TABLE_WORDS], n: NodeNo) -> usize
+pub fn age_of(rows: &[u16; TABLE_WORDS], n: NodeNo) -> usize
     requires { ⌜ n .0 < nodeLimit ⌝ }
     ensures { λ r. ⌜ r ≡ ageIn (now (rows .entry)) (n .0) ⌝ }
 {
