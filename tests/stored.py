@@ -30,6 +30,17 @@ def offered_line(words):
     return '05' + ''.join(f'{op:04x}{count:02x}{mark:02x}{rule:04x}' for op, count, mark, rule in zip(*[iter(words)] * 4))
 
 
+def deep_lines(levels):
+    """An offered proof of one term, (o3 (o3 .. o1)): too long to be stored."""
+    words = [w for _ in range(levels) for w in (3, 1, 0, 0)] + [1, 0, 0, 0]
+    # as many nodes a line as a line may hold
+    return [offered_line(words[i:i + 2400]) for i in range(0, len(words), 2400)] + ['06']
+
+
+# Row 19 of docs/DIFFERENCES.md: how deep the term is on which the Rust overflows a thread's stack.
+DEEP = 40000
+
+
 def table_lines(nodes, rules, connections):
     return [node_line(n) for n in nodes] + [rule_line(r) for r in rules] + [connection_line(c) for c in connections]
 

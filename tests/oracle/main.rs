@@ -4,7 +4,8 @@
 //!
 //! With the word `union` as argument the forest is built by egg's own `union`, which turns trees round, instead of from the connections
 //! as they are given. What is joined, and by what, is the same then, and so must be every answer. With the word `operators` a node
-//! matches another of the same operator, whatever their child counts.
+//! matches another of the same operator, whatever their child counts. With the word `alternate` a rule between two nodes that are
+//! joined already is handed to egg's `alternate_rewrite`, and with the word `thread` egg has a thread's usual stack of 2 MiB.
 //!
 //! Tables are believed: nothing is judged. A query prints `distance D` and each flat term on a line of its own (the distance alone
 //! where it is above 4,095, since the flat proof may then be too large to hold); an offered proof prints `passes`, `fails`
@@ -101,27 +102,41 @@ fn connection(frame: &mut Frame) -> (Id, Id, Justification, bool) {
     }
 }
 
-/// One term of an offered proof. A node's own children play no part in a flat term, but their number does: `matches` compares it.
-fn offered_term(frame: &mut Frame) -> FlatTerm<Node> {
+/// One node of an offered proof, and how many children it says it has. A node's own children play no part in a flat term, but their
+/// number does: `matches` compares it.
+fn offered_node(frame: &mut Frame) -> (FlatTerm<Node>, usize) {
     let (op, count, mark, rule) = (
         operator(frame.number()),
-        frame.byte(),
+        usize::from(frame.byte()),
         frame.byte(),
         frame.number(),
     );
-    let node = Node {
-        op,
-        children: vec![Id::from(0); usize::from(count)],
-    };
-    let mut term = FlatTerm::new(node, vec![]);
+    let children = vec![Id::from(0); count];
+    let mut term = FlatTerm::new(Node { op, children }, vec![]);
     match mark {
         0 => assert!(rule == 0, "an unmarked node with a rule"),
         1 => term.forward_rule = Some(Symbol('r', rule)),
         2 => term.backward_rule = Some(Symbol('r', rule)),
         _ => panic!("no mark"),
     }
-    term.children = (0..count).map(|_| offered_term(frame)).collect();
-    term
+    (term, count)
+}
+
+/// One term of an offered proof, read without recursion: a deep term is egg's to recurse on.
+fn offered_term(frame: &mut Frame) -> FlatTerm<Node> {
+    let mut open = vec![offered_node(frame)];
+    loop {
+        let (term, count) = open.last().unwrap();
+        if term.children.len() < *count {
+            open.push(offered_node(frame));
+            continue;
+        }
+        let (term, _) = open.pop().unwrap();
+        match open.last_mut() {
+            Some((parent, _)) => parent.children.push(term),
+            None => return term,
+        }
+    }
 }
 
 /// What egg said, or the first line of why it panicked.
@@ -141,13 +156,19 @@ fn asked_for(word: &str) -> bool {
 }
 
 fn forest_of(tables: &Tables) -> Explain<Node> {
-    let by_union = asked_for("union");
+    let (by_union, alternate) = (asked_for("union"), asked_for("alternate"));
     let mut forest = Explain::base();
+    // the class of each node, for the nodes that are joined already
+    let mut class: Vec<usize> = (0..tables.nodes.len()).collect();
     for node in &tables.nodes {
         forest.plant(node.clone());
     }
     for (current, next, why, forward) in tables.connections.iter().cloned() {
+        let (old, new) = (class[usize::from(current)], class[usize::from(next)]);
+        class.iter_mut().filter(|c| **c == old).for_each(|c| *c = new);
         match (by_union, forward) {
+            (_, true) if alternate && old == new => forest.alternate_rewrite(current, next, why),
+            (_, false) if alternate && old == new => forest.alternate_rewrite(next, current, why),
             (false, _) => forest.connect(current, next, why, forward),
             (true, true) => forest.union(current, next, why),
             (true, false) => forest.union(next, current, why),
@@ -179,9 +200,9 @@ fn answer(tables: &Tables, left: Id, right: Id) -> String {
         )
     }) {
         Ok((terms, plain)) => {
-            // with shortening off the two ways to a path must agree
+            // with shortening off the two ways to a path must agree, if the memo has nothing but what `union` puts there
             assert!(
-                text(&terms) == text(&plain),
+                asked_for("alternate") || text(&terms) == text(&plain),
                 "get_path and get_path_unoptimized differ"
             );
             out += &text(&terms)
@@ -247,8 +268,9 @@ fn main() {
     let mut input = String::new();
     std::io::stdin().read_to_string(&mut input).unwrap();
     // egg recurses over terms and nodes
+    let stack = if asked_for("thread") { 1 << 21 } else { 1 << 29 };
     let work = std::thread::Builder::new()
-        .stack_size(1 << 29)
+        .stack_size(stack)
         .spawn(move || {
             let loud = std::panic::take_hook();
             std::panic::set_hook(Box::new(|_| ()));

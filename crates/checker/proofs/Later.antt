@@ -9,6 +9,7 @@ use native.Mathlib.Numerals.{add-one}
 use native.Mathlib.Omega.{arith}
 use borrow.Author.Tests.{lt-ltb, le-ltb}
 use lib.ListN.{length}
+use Rattle.model.specs.Tables.{ruleTable}
 use Rattle.model.specs.declared.Verdict.{Verdict}
 use Rattle.model.specs.declared.Verdict.the-variants.{Accepted, Rejected}
 use Rattle.model.specs.Judged.{good}
@@ -20,31 +21,31 @@ use Rattle.model.specs.Step.{step, someMark, isMark, goes, nested, unlisted}
 use Rattle.model.specs.Verdict.{rejectIf, laterVerdict, chainVerdict, termsVerdict, verdict}
 use Rattle.terms.specs.Place.{TermAt, RowAt, Well, EndsAt}
 use Rattle.terms.proofs.Place.{row-tree, row-well, end-same, term-row, read-row}
-use Rattle.terms.specs.declared.Whole.the-variants.{Count, Broken}
+use Rattle.terms.specs.declared.WholeTerms.the-variants.{Count, Broken}
 use Rattle.terms.specs.Whole.{wholeOf}
 use Rattle.terms.proofs.Read.{read-words}
-use Rattle.marks.specs.declared.Marks.{Marks}
-use Rattle.marks.specs.Marks.{HasRow, marksOf, MarkedIs}
+use Rattle.marks.specs.declared.Directions.{Directions}
+use Rattle.marks.specs.Marks.{HasRow, directionsOf, MarkedIs}
 use Rattle.marks.proofs.Seen.{some-either}
-use Rattle.rule_table.specs.Entries.{rulesIn, Accepted as AcceptedRules}
+use Rattle.rule_table.specs.Entries.{AcceptedRules}
 use Rattle.checker.specs.Check.{oneWay, faultIf, faultOf, FaultIs, chainOf, ChainIs}
 
 -- marks of one direction, from the marks of both
-pub one-way-forward : (m : Marks) → m .forward ≡ true → not (m .backward) ≡ oneWay m
+pub one-way-forward : (m : Directions) → m .forward ≡ true → not (m .backward) ≡ oneWay m
 one-way-forward m e = rw e (go (m .backward))
   where
     go : (b : Bool) → not b ≡ not (not (true || b) || (true && b))
     go true = refl
     go false = refl
 
-pub one-way-backward : (m : Marks) → m .forward ≡ false → m .backward ≡ oneWay m
+pub one-way-backward : (m : Directions) → m .forward ≡ false → m .backward ≡ oneWay m
 one-way-backward m e = rw e (go (m .backward))
   where
     go : (b : Bool) → b ≡ not (not (false || b) || (false && b))
     go true = refl
     go false = refl
 
-pub one-way-of : (f : Terms) (b : Bool) → oneWay (marksOf f) ≡ b → (not (someMark isMark f) || (someMark (goes Forward) f && someMark (goes Backward) f)) ≡ not b
+pub one-way-of : (f : Terms) (b : Bool) → oneWay (directionsOf f) ≡ b → (not (someMark isMark f) || (someMark (goes Forward) f && someMark (goes Backward) f)) ≡ not b
 one-way-of f b e =
     let p : not (not (not (someMark (goes Forward) f || someMark (goes Backward) f) || (someMark (goes Forward) f && someMark (goes Backward) f))) ≡ not b = ap not e in
     ap (λ (x : Bool). not x || (someMark (goes Forward) f && someMark (goes Backward) f)) (some-either f)
@@ -56,23 +57,23 @@ one-way-of f b e =
 
 -- the first fault that holds
 module _ (rs : List Rule) (s t : Terms) where
-  pub fault-way : oneWay (marksOf t) ≡ false → 15 ≡ faultOf rs s t
+  pub fault-way : oneWay (directionsOf t) ≡ false → 15 ≡ faultOf rs s t
   unfolding faultOf
   fault-way a = rw (one-way-of t false a)
 
-  pub fault-nested : oneWay (marksOf t) ≡ true → nested t ≡ true → 18 ≡ faultOf rs s t
+  pub fault-nested : oneWay (directionsOf t) ≡ true → nested t ≡ true → 18 ≡ faultOf rs s t
   unfolding faultOf
   fault-nested a b = rw (one-way-of t true a, b)
 
-  pub fault-unlisted : oneWay (marksOf t) ≡ true → nested t ≡ false → unlisted rs t ≡ true → 16 ≡ faultOf rs s t
+  pub fault-unlisted : oneWay (directionsOf t) ≡ true → nested t ≡ false → unlisted rs t ≡ true → 16 ≡ faultOf rs s t
   unfolding faultOf
   fault-unlisted a b c = rw (one-way-of t true a, b, c)
 
-  pub fault-step : oneWay (marksOf t) ≡ true → nested t ≡ false → unlisted rs t ≡ false → step rs s t ≡ false → 17 ≡ faultOf rs s t
+  pub fault-step : oneWay (directionsOf t) ≡ true → nested t ≡ false → unlisted rs t ≡ false → step rs s t ≡ false → 17 ≡ faultOf rs s t
   unfolding faultOf
   fault-step a b c d = rw (one-way-of t true a, b, c, d)
 
-  pub fault-none : oneWay (marksOf t) ≡ true → nested t ≡ false → unlisted rs t ≡ false → step rs s t ≡ true → 0 ≡ faultOf rs s t
+  pub fault-none : oneWay (directionsOf t) ≡ true → nested t ≡ false → unlisted rs t ≡ false → step rs s t ≡ true → 0 ≡ faultOf rs s t
   unfolding faultOf
   fault-none a b c d = rw (one-way-of t true a, b, c, d)
 
@@ -101,19 +102,19 @@ some-fault zero k v h = absurd (h refl)
 some-fault (suc n) k v h = refl
 
 -- where the walk over the later terms is: the verdict on what is left behind the term at `before` is that on the whole row
-pub record Behind (rs : List Rule) (ws : List ℕ) (n before at k : ℕ) (f : Terms) : Type 0 where
+pub record LaterRest (rs : List Rule) (ws : List ℕ) (n before at k : ℕ) (f : Terms) : Type 0 where
   pub term : Term
   pub is : TermAt ws before at term
   pub rest : Terms
   pub row : RowAt ws at (n - k) rest
   pub same : chainVerdict rs k (one term) rest ≡ chainOf rs f
 
-pub record LaterHere (rws : List ℕ) (c : ℕ) (ws : List ℕ) (n before at k : ℕ) : Type 0 where
+pub record LaterHere (rws ws : List ℕ) (n before at k : ℕ) : Type 0 where
   pub low : 0 < k
   pub high : k ≤ n
-  pub here : (rs : List Rule) → rulesIn rws c ≡ good rs → (f : Terms) → RowAt ws 0 n f → Behind rs ws n before at k f
+  pub here : (rs : List Rule) → ruleTable rws ≡ good rs → (f : Terms) → RowAt ws 0 n f → LaterRest rs ws n before at k f
 
-first-behind : (rs : List Rule) (ws : List ℕ) (n e : ℕ) → EndsAt ws 0 e → (f : Terms) → RowAt ws 0 (suc n) f → Behind rs ws (suc n) 0 e 1 f
+first-behind : (rs : List Rule) (ws : List ℕ) (n e : ℕ) → EndsAt ws 0 e → (f : Terms) → RowAt ws 0 (suc n) f → LaterRest rs ws (suc n) 0 e 1 f
 unfolding count
 first-behind rs ws n e x noTerms h = absurd (omega (arith, h .counted))
 first-behind rs ws n e x (tree o m k s) h =
@@ -122,18 +123,18 @@ first-behind rs ws n e x (tree o m k s) h =
     let c : suc n - 1 ≡ n = omega arith in
     record { term = record { op = o; mark = m; kids = k }; is = rw q at (t .term); rest = s; row = rw c (rw q at (t .behind)); same = refl }
 
-module _ (rws : List ℕ) (c : ℕ) (ws : List ℕ) (n : ℕ) where
-  by-one : (m : ℕ) → 0 < m → (e : ℕ) → EndsAt ws 0 e → (rs : List Rule) → rulesIn rws c ≡ good rs → (f : Terms) → RowAt ws 0 m f → Behind rs ws m 0 e 1 f
+module _ (rws ws : List ℕ) (n : ℕ) where
+  by-one : (m : ℕ) → 0 < m → (e : ℕ) → EndsAt ws 0 e → (rs : List Rule) → ruleTable rws ≡ good rs → (f : Terms) → RowAt ws 0 m f → LaterRest rs ws m 0 e 1 f
   by-one zero l e x rs are f h = absurd (omega arith)
   by-one (suc m) l e x rs are f h = first-behind rs ws m e x f h
 
-  pub later-first : 0 < n → (e : ℕ) → EndsAt ws 0 e → LaterHere rws c ws n 0 e 1
+  pub later-first : 0 < n → (e : ℕ) → EndsAt ws 0 e → LaterHere rws ws n 0 e 1
   later-first l e x = record { low = omega arith; high = omega arith; here = by-one n l e x }
 
-  module _ (before at k : ℕ) (w : LaterHere rws c ws n before at k) where
+  module _ (before at k : ℕ) (w : LaterHere rws ws n before at k) where
     next-behind : (rs : List Rule) (f : Terms) (s : Term) (m : ℕ) → n - k ≡ suc m → (g : Terms) → RowAt ws at (suc m) g
         → chainVerdict rs k (one s) g ≡ chainOf rs f → ((e : ℕ) (t : Term) → TermAt ws at e t → 0 ≡ faultOf rs (one s) (one t))
-        → (stop : ℕ) → EndsAt ws at stop → Behind rs ws n at stop (k + 1) f
+        → (stop : ℕ) → EndsAt ws at stop → LaterRest rs ws n at stop (k + 1) f
     unfolding count chainVerdict afterFault
     next-behind rs f s m e noTerms h same fault stop x = absurd (omega (arith, h .counted))
     next-behind rs f s m e (tree o mk ks r) h same fault stop x =
@@ -152,7 +153,7 @@ module _ (rws : List ℕ) (c : ℕ) (ws : List ℕ) (n : ℕ) where
               ∙ (sym (later-by-fault rs k (one s) later (chainVerdict rs (suc k) later r)) ∙ same);
         })
 
-    pub later-next : k < n → FaultIs rws c ws before at 0 → (stop : ℕ) → EndsAt ws at stop → LaterHere rws c ws n at stop (k + 1)
+    pub later-next : k < n → FaultIs rws ws before at 0 → (stop : ℕ) → EndsAt ws at stop → LaterHere rws ws n at stop (k + 1)
     later-next l fault stop x =
         record {
           low = omega arith;
@@ -175,7 +176,7 @@ module _ (rws : List ℕ) (c : ℕ) (ws : List ℕ) (n : ℕ) where
         sym (some-fault fault k v z)
         ∙ (ap (λ (n : ℕ). afterFault n k v) (is (t .stop) _ (t .term)) ∙ (sym (later-by-fault rs k (one s) later v) ∙ same))
 
-    pub later-found : k < n → (fault : ℕ) → (fault ≡ 0 → ⊥) → FaultIs rws c ws before at fault → ChainIs rws c ws n (Rejected fault k)
+    pub later-found : k < n → (fault : ℕ) → (fault ≡ 0 → ⊥) → FaultIs rws ws before at fault → ChainIs rws ws n (Rejected fault k)
     later-found l fault z is rs are f h =
         let b = w .here rs are f h in
         let e : n - k ≡ suc (n - suc k) = omega arith in
@@ -186,7 +187,7 @@ module _ (rws : List ℕ) (c : ℕ) (ws : List ℕ) (n : ℕ) where
     done-behind rs f s noTerms h same = same
     done-behind rs f s (tree o m ks r) h same = absurd (omega (arith, h .counted))
 
-    pub later-done : n ≤ k → ChainIs rws c ws n (Accepted n)
+    pub later-done : n ≤ k → ChainIs rws ws n (Accepted n)
     later-done l rs are f h =
         let b = w .here rs are f h in
         let e : n - k ≡ 0 = omega arith in
@@ -194,12 +195,12 @@ module _ (rws : List ℕ) (c : ℕ) (ws : List ℕ) (n : ℕ) where
         ap Accepted q ∙ done-behind rs f (b .term) (b .rest) (rw e at (b .row)) (b .same)
 
     -- terms stand at both places
-    pub later-before : AcceptedRules rws c → HasRow ws 0 n → Well ws before
+    pub later-before : AcceptedRules rws → HasRow ws 0 n → Well ws before
     later-before a r =
         let b = w .here (a .rules) (a .are) (r .terms) (r .is) in
         record { end = at; term = b .term; is = b .is }
 
-    pub later-at : AcceptedRules rws c → HasRow ws 0 n → k < n → Well ws at
+    pub later-at : AcceptedRules rws → HasRow ws 0 n → k < n → Well ws at
     later-at a r l =
         let b = w .here (a .rules) (a .are) (r .terms) (r .is) in
         let e : n - k ≡ suc (n - suc k) = omega arith in
@@ -243,18 +244,18 @@ unfolding verdict
 words-read rs ws o l e = rw (le-ltb wordLimit (length ws) l) (ap (termsVerdict rs) (sym e))
 
 -- what was counted
-pub record Counted (ws : List ℕ) (n : ℕ) : Type 0 where
+pub record CountedTerms (ws : List ℕ) (n : ℕ) : Type 0 where
   pub terms : Terms
   pub was : read ws ≡ some terms
   pub row : RowAt ws 0 n terms
 
-counted-by : (ws : List ℕ) (n : ℕ) (o : Option Terms) → read ws ≡ o → wholeOf o ≡ Count n → Counted ws n
+counted-by : (ws : List ℕ) (n : ℕ) (o : Option Terms) → read ws ≡ o → wholeOf o ≡ Count n → CountedTerms ws n
 counted-by ws n none p e = let z : _≡_ {A = ℕ} 0 1 = cc in absurd (omega arith)
 counted-by ws n (some f) p e =
     let c : count f ≡ n = cc in
     record { terms = f; was = p; row = rw c at (read-row ws f p) }
 
-pub counted : (ws : List ℕ) (n : ℕ) → wholeOf (read ws) ≡ Count n → Counted ws n
+pub counted : (ws : List ℕ) (n : ℕ) → wholeOf (read ws) ≡ Count n → CountedTerms ws n
 counted ws n e = counted-by ws n (read ws) refl e
 
 broken-by : (o : Option Terms) → wholeOf o ≡ Broken → o ≡ none
@@ -266,7 +267,7 @@ unfolding termsVerdict
 broken rs ws l e = words-read rs ws none l (broken-by (read ws) e)
 
 -- words that are some are some terms
-pub counted-some : (ws : List ℕ) (n : ℕ) → Counted ws n → (length ws ≡ 0 → ⊥) → 0 < n
+pub counted-some : (ws : List ℕ) (n : ℕ) → CountedTerms ws n → (length ws ≡ 0 → ⊥) → 0 < n
 unfolding count words
 counted-some ws zero c h = go (c .terms) (c .was) (c .row)
   where

@@ -3,7 +3,7 @@ pub mod Verdicts
 pub mod DemandTwo
 pub mod Book
 pub mod Names
-pub mod Entries
 pub mod Allow
 pub mod Pairs
 pub mod Later
+pub mod Only

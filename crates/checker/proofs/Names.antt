@@ -5,8 +5,9 @@ use mathlib.Core.Bool.{Bool, true, false, not, _||_}
 use mathlib.Core.List.{List}
 use mathlib.Core.Option.{Option}
 use mathlib.Core.Path.{_≡_, refl, sym, _∙_, ap}
-use native.Mathlib.Omega.{arith}
-use lib.ListN.{length, getD}
+use lib.ListN.{length}
+use Rattle.model.specs.Tables.{ruleTable}
+use Rattle.model.specs.Limits.{flatWords}
 use Rattle.model.specs.Judged.{good}
 use Rattle.model.specs.Term.{Mark, unmarked, marked, markWord, ruleWord, Term, one}
 use Rattle.model.specs.Rule.{Rule, listed, isListed}
@@ -14,8 +15,8 @@ use Rattle.model.specs.Step.{someMark, namesUnlisted, unlisted}
 use Rattle.terms.specs.Place.{nodeOf, TermAt, Well}
 use Rattle.terms.proofs.Place.{term-row}
 use Rattle.terms.proofs.Read.{direction-some}
-use Rattle.rule_table.specs.Entries.{rulesIn, Accepted}
-use Rattle.marks.proofs.Left.{Left, left-down, left-first, left-none, left-room, left-few}
+use Rattle.rule_table.specs.Entries.{AcceptedRules}
+use Rattle.marks.proofs.Remaining.{Remaining, remaining-down, remaining-first, remaining-none, remaining-room, remaining-few}
 use Rattle.marks.proofs.Seen.{some-join}
 use Rattle.checker.specs.Check.{NamesIs, UnlistedIs}
 
@@ -30,40 +31,40 @@ names-rule rs unmarked o h e = absurd (h refl)
 names-rule rs (marked d n) o h e = ap (λ (x : Option Rule). not (isListed x)) (sym e)
 
 -- where the walk is: what is left names an unlisted rule exactly where the whole term does
-pub NamesHere : List ℕ → ℕ → List ℕ → ℕ → ℕ → ℕ → Type 0
-NamesHere rws count ws at pos pending =
-    (rs : List Rule) → rulesIn rws count ≡ good rs → (e : ℕ) (t : Term) → TermAt ws at e t
-    → Left ws pos pending (λ g. unlisted rs g ≡ unlisted rs (one t))
+pub NamesHere : List ℕ → List ℕ → ℕ → ℕ → ℕ → Type 0
+NamesHere rws ws at pos pending =
+    (rs : List Rule) → ruleTable rws ≡ good rs → (e : ℕ) (t : Term) → TermAt ws at e t
+    → Remaining ws pos pending (λ g. unlisted rs g ≡ unlisted rs (one t))
 
-pub names-first : (rws : List ℕ) (count : ℕ) (ws : List ℕ) (at : ℕ) → NamesHere rws count ws at at 1
+pub names-first : (rws ws : List ℕ) (at : ℕ) → NamesHere rws ws at at 1
 unfolding NamesHere
-names-first rws count ws at rs are e t h = record { rest = one t; is = term-row ws at e t h; holds = refl }
+names-first rws ws at rs are e t h = record { rest = one t; is = term-row ws at e t h; holds = refl }
 
-module _ (rws : List ℕ) (count : ℕ) (ws : List ℕ) (at pos pending : ℕ) (here : NamesHere rws count ws at pos pending) where
-  pub names-next : 0 < pending → NamesIs rws count (nodeOf ws pos) false → NamesHere rws count ws at (pos + 4) (pending - 1 + getD ws (pos + 1) 0)
+module _ (rws ws : List ℕ) (at pos pending : ℕ) (here : NamesHere rws ws at pos pending) where
+  pub names-next : 0 < pending → NamesIs rws (nodeOf ws pos) false → NamesHere rws ws at (pos + flatWords) (pending - 1 + nodeOf ws pos .count)
   unfolding NamesHere unlisted someMark
   names-next l clear rs are e t h =
-      left-down ws pos (λ g. unlisted rs g ≡ unlisted rs (one t)) (λ g. unlisted rs g ≡ unlisted rs (one t)) pending
+      remaining-down ws pos (λ g. unlisted rs g ≡ unlisted rs (one t)) (λ g. unlisted rs g ≡ unlisted rs (one t)) pending
       (λ o m k s w r p.
       some-join (namesUnlisted rs) k s
       ∙ (ap (λ (b : Bool). b || (someMark (namesUnlisted rs) k || someMark (namesUnlisted rs) s)) (clear rs are m w r) ∙ p))
       l (here rs are e t h)
 
-  pub names-found : 0 < pending → NamesIs rws count (nodeOf ws pos) true → UnlistedIs rws count ws at true
+  pub names-found : 0 < pending → NamesIs rws (nodeOf ws pos) true → UnlistedIs rws ws at true
   unfolding NamesHere unlisted someMark
   names-found l hit rs are e t h =
-      let f = left-first ws pos (λ g. unlisted rs g ≡ unlisted rs (one t)) pending l (here rs are e t h) in
+      let f = remaining-first ws pos (λ g. unlisted rs g ≡ unlisted rs (one t)) pending l (here rs are e t h) in
       ap (λ (b : Bool). b || (someMark (namesUnlisted rs) (f .kids) || someMark (namesUnlisted rs) (f .behind))) (hit rs are (f .mark) (f .word) (f .rule))
       ∙ f .holds
 
-  pub names-done : pending ≡ 0 → UnlistedIs rws count ws at false
+  pub names-done : pending ≡ 0 → UnlistedIs rws ws at false
   unfolding NamesHere unlisted someMark
-  names-done z rs are e t h = left-none ws pos (λ g. unlisted rs g ≡ unlisted rs (one t)) pending z (here rs are e t h)
+  names-done z rs are e t h = remaining-none ws pos (λ g. unlisted rs g ≡ unlisted rs (one t)) pending z (here rs are e t h)
 
-  pub names-room : Accepted rws count → Well ws at → 0 < pending → pos + 4 ≤ length ws
+  pub names-room : AcceptedRules rws → Well ws at → 0 < pending → pos + flatWords ≤ length ws
   unfolding NamesHere
-  names-room a w l = left-room ws pos _ pending l (here (a .rules) (a .are) (w .end) (w .term) (w .is))
+  names-room a w l = remaining-room ws pos _ pending l (here (a .rules) (a .are) (w .end) (w .term) (w .is))
 
-  pub names-few : Accepted rws count → Well ws at → 4 * pending ≤ length ws
+  pub names-few : AcceptedRules rws → Well ws at → flatWords * pending ≤ length ws
   unfolding NamesHere
-  names-few a w = left-few ws pos _ pending (here (a .rules) (a .are) (w .end) (w .term) (w .is))
+  names-few a w = remaining-few ws pos _ pending (here (a .rules) (a .are) (w .end) (w .term) (w .is))

@@ -1,4 +1,4 @@
--- What the checker's parts answer, over a rule table whose first `count` entries are the rules rs.
+-- What the checker's parts answer, over an accepted rule table whose rules are rs.
 -- Assumes nothing.
 use Prim.Native.Nat.{ℕ, suc, _+_, _≤_, _<_}
 use mathlib.Core.Bool.{Bool, true, false, not, _&&_, _||_}
@@ -13,74 +13,72 @@ use Rattle.model.specs.declared.Direction.the-variants.{Forward, Backward}
 use Rattle.model.specs.Term.{Mark, markWord, ruleWord, Terms, noTerms, tree, Term, one}
 use Rattle.model.specs.Pattern.{fits}
 use Rattle.model.specs.Rule.{Rule, listed}
-use Rattle.model.specs.Tables.{ruleEntry}
+use Rattle.model.specs.Tables.{ruleEntry, ruleTable}
 use Rattle.model.specs.Step.{fitsRule, allowed, step, someMark, isMark, goes, nested, namesUnlisted, unlisted}
 use Rattle.model.specs.Verdict.{chainVerdict, termsVerdict, verdict}
-use Rattle.terms.specs.declared.Node.{Node}
+use Rattle.terms.specs.declared.TreeNode.{TreeNode}
 use Rattle.terms.specs.Place.{TermAt, RowAt}
-use Rattle.marks.specs.declared.Marks.{Marks}
-use Rattle.rule_table.specs.Entries.{rulesIn}
-use Rattle.checker.specs.declared.Pair.{Pair}
+use Rattle.marks.specs.declared.Directions.{Directions}
+use Rattle.matching.specs.declared.Fit.{Fit}
+use Rattle.matching.specs.Match.{isFit}
+use Rattle.checker.specs.declared.PairStep.{PairStep}
+use Rattle.checker.specs.declared.PairStep.the-variants.{On, Off}
 
 -- r says whether a node's mark names an unlisted rule
-abbrev pub NamesIs : List ℕ → ℕ → Node → Bool → Type 0
-NamesIs rws count n r =
-    (rs : List Rule) → rulesIn rws count ≡ good rs → (m : Mark) → n .mark ≡ markWord m → n .rule .0 ≡ ruleWord m → r ≡ namesUnlisted rs m
+abbrev pub NamesIs : List ℕ → TreeNode → Bool → Type 0
+NamesIs rws n r =
+    (rs : List Rule) → ruleTable rws ≡ good rs → (m : Mark) → n .mark ≡ markWord m → n .rule .0 ≡ ruleWord m → r ≡ namesUnlisted rs m
 
 -- and whether one in the term at a place does
-abbrev pub UnlistedIs : List ℕ → ℕ → List ℕ → ℕ → Bool → Type 0
-UnlistedIs rws count ws at r =
-    (rs : List Rule) → rulesIn rws count ≡ good rs → (e : ℕ) (t : Term) → TermAt ws at e t → r ≡ unlisted rs (one t)
+abbrev pub UnlistedIs : List ℕ → List ℕ → ℕ → Bool → Type 0
+UnlistedIs rws ws at r =
+    (rs : List Rule) → ruleTable rws ≡ good rs → (e : ℕ) (t : Term) → TermAt ws at e t → r ≡ unlisted rs (one t)
 
--- entry i of a table is a rule; and r says whether it makes the term at a its left side and the term at b its right side
-pub record Holds (rws : List ℕ) (i : ℕ) : Type 0 where
-  pub rule : Rule
-  pub said : ruleEntry rws i ≡ some rule
-
-abbrev pub EntryFits : List ℕ → ℕ → List ℕ → ℕ → ℕ → Bool → Type 0
+-- r says whether the rule of entry i makes the term at a its left side and the term at b its right side
+abbrev pub EntryFits : List ℕ → ℕ → List ℕ → ℕ → ℕ → Fit → Type 0
 EntryFits rws i ws a b r =
     (x : Rule) → ruleEntry rws i ≡ some x → (e e′ : ℕ) (t u : Term) → TermAt ws a e t → TermAt ws b e′ u
-    → r ≡ fits (x .left) (x .right) (one t) (one u)
+    → isFit r ≡ fits (x .left) (x .right) (one t) (one u)
 
 -- r says whether the rule of a number makes the term at a its left side and the term at b its right side
-abbrev pub FitsIs : List ℕ → ℕ → ℕ → List ℕ → ℕ → ℕ → Bool → Type 0
-FitsIs rws count number ws a b r =
-    (rs : List Rule) → rulesIn rws count ≡ good rs → (e e′ : ℕ) (t u : Term) → TermAt ws a e t → TermAt ws b e′ u
-    → r ≡ fitsRule (listed rs number) (one t) (one u)
+abbrev pub FitsIs : List ℕ → ℕ → List ℕ → ℕ → ℕ → Fit → Type 0
+FitsIs rws number ws a b r =
+    (rs : List Rule) → ruleTable rws ≡ good rs → (e e′ : ℕ) (t u : Term) → TermAt ws a e t → TermAt ws b e′ u
+    → isFit r ≡ fitsRule (listed rs number) (one t) (one u)
 
 -- and whether the mark at the root of the term at j allows it to follow the term at i
-abbrev pub AllowedIs : List ℕ → ℕ → List ℕ → ℕ → ℕ → Bool → Type 0
-AllowedIs rws count ws i j r =
-    (rs : List Rule) → rulesIn rws count ≡ good rs → (e e′ : ℕ) (t u : Term) → TermAt ws i e t → TermAt ws j e′ u
-    → r ≡ allowed rs (u .mark) (one t) (one u)
+abbrev pub AllowedIs : List ℕ → List ℕ → ℕ → ℕ → Fit → Type 0
+AllowedIs rws ws i j r =
+    (rs : List Rule) → ruleTable rws ≡ good rs → (e e′ : ℕ) (t u : Term) → TermAt ws i e t → TermAt ws j e′ u
+    → isFit r ≡ allowed rs (u .mark) (one t) (one u)
 
 -- a pair of nodes of a step, in rows f and g of suc n terms: what is left behind it steps exactly where the rows do
-pub record Goes (rs : List Rule) (ws : List ℕ) (i : ℕ) (r : Pair) (n : ℕ) (f g : Terms) : Type 0 where
+pub record PairSteps (rs : List Rule) (ws : List ℕ) (i i′ j′ more n : ℕ) (f g : Terms) : Type 0 where
   pub earlier : Terms
   pub later : Terms
-  pub isE : RowAt ws (r .i) (r .more + n) earlier
-  pub isL : RowAt ws (r .j) (r .more + n) later
+  pub isE : RowAt ws i′ (more + n) earlier
+  pub isL : RowAt ws j′ (more + n) later
   pub same : step rs earlier later ≡ step rs f g
-  pub up : i < r .i
-  pub within : r .i ≤ length ws
+  pub up : i < i′
+  pub within : i′ ≤ length ws
 
-abbrev pub PairOk : Bool → List Rule → List ℕ → ℕ → Pair → ℕ → Terms → Terms → Type 0
-PairOk true rs ws i r n f g = Goes rs ws i r n f g
-PairOk false rs ws i r n f g = step rs f g ≡ false
+abbrev pub PairBy : PairStep → List Rule → List ℕ → ℕ → ℕ → Terms → Terms → Type 0
+PairBy (On i′ j′ more) rs ws i n f g = PairSteps rs ws i i′ j′ more n f g
+PairBy Off rs ws i n f g = step rs f g ≡ false
 
-abbrev pub PairIs : List ℕ → ℕ → List ℕ → ℕ → ℕ → Pair → Type 0
-PairIs rws count ws i j r =
-    (rs : List Rule) → rulesIn rws count ≡ good rs → (n : ℕ) (f g : Terms) → RowAt ws i (suc n) f → RowAt ws j (suc n) g
-    → PairOk (r .ok) rs ws i r n f g
+abbrev pub PairIs : List ℕ → List ℕ → ℕ → ℕ → PairStep → Type 0
+PairIs rws ws i j r =
+    (rs : List Rule) → ruleTable rws ≡ good rs → (n : ℕ) (f g : Terms) → RowAt ws i (suc n) f → RowAt ws j (suc n) g
+    → PairBy r rs ws i n f g
 
 -- r says whether the term at b is a step from the term at a
-abbrev pub StepIs : List ℕ → ℕ → List ℕ → ℕ → ℕ → Bool → Type 0
-StepIs rws count ws a b r =
-    (rs : List Rule) → rulesIn rws count ≡ good rs → (e e′ : ℕ) (t u : Term) → TermAt ws a e t → TermAt ws b e′ u
+abbrev pub StepIs : List ℕ → List ℕ → ℕ → ℕ → Bool → Type 0
+StepIs rws ws a b r =
+    (rs : List Rule) → ruleTable rws ≡ good rs → (e e′ : ℕ) (t u : Term) → TermAt ws a e t → TermAt ws b e′ u
     → r ≡ step rs (one t) (one u)
 
 -- 15: "a later term has no mark, or marks of both directions"; no fault where there are marks of one direction
-abbrev pub oneWay : Marks → Bool
+abbrev pub oneWay : Directions → Bool
 oneWay m = not (not (m .forward || m .backward) || (m .forward && m .backward))
 
 -- "each later term in order by 15, 18, 16, 17": the first that holds, or 0
@@ -94,9 +92,9 @@ faultOf rs s t =
     faultIf (not (someMark isMark t) || (someMark (goes Forward) t && someMark (goes Backward) t)) 15
     (faultIf (nested t) 18 (faultIf (unlisted rs t) 16 (faultIf (not (step rs s t)) 17 0)))
 
-abbrev pub FaultIs : List ℕ → ℕ → List ℕ → ℕ → ℕ → ℕ → Type 0
-FaultIs rws count ws before at r =
-    (rs : List Rule) → rulesIn rws count ≡ good rs → (e e′ : ℕ) (s t : Term) → TermAt ws before e s → TermAt ws at e′ t
+abbrev pub FaultIs : List ℕ → List ℕ → ℕ → ℕ → ℕ → Type 0
+FaultIs rws ws before at r =
+    (rs : List Rule) → ruleTable rws ≡ good rs → (e e′ : ℕ) (s t : Term) → TermAt ws before e s → TermAt ws at e′ t
     → r ≡ faultOf rs (one s) (one t)
 
 -- the verdict on the later terms of a row, and on the row
@@ -104,12 +102,12 @@ abbrev pub chainOf : List Rule → Terms → Verdict
 chainOf rs noTerms = Accepted 0
 chainOf rs (tree o m k f) = chainVerdict rs 1 (tree o m k noTerms) f
 
-abbrev pub ChainIs : List ℕ → ℕ → List ℕ → ℕ → Verdict → Type 0
-ChainIs rws count ws n r = (rs : List Rule) → rulesIn rws count ≡ good rs → (f : Terms) → RowAt ws 0 n f → r ≡ chainOf rs f
+abbrev pub ChainIs : List ℕ → List ℕ → ℕ → Verdict → Type 0
+ChainIs rws ws n r = (rs : List Rule) → ruleTable rws ≡ good rs → (f : Terms) → RowAt ws 0 n f → r ≡ chainOf rs f
 
-abbrev pub TermsIs : List ℕ → ℕ → List ℕ → ℕ → Verdict → Type 0
-TermsIs rws count ws n r = (rs : List Rule) → rulesIn rws count ≡ good rs → (f : Terms) → RowAt ws 0 n f → r ≡ termsVerdict rs (some f)
+abbrev pub TermsIs : List ℕ → List ℕ → ℕ → Verdict → Type 0
+TermsIs rws ws n r = (rs : List Rule) → ruleTable rws ≡ good rs → (f : Terms) → RowAt ws 0 n f → r ≡ termsVerdict rs (some f)
 
 -- the whole: what the strict checker says
-abbrev pub VerdictIs : List ℕ → ℕ → List ℕ → Verdict → Type 0
-VerdictIs rws count ws r = (rs : List Rule) → rulesIn rws count ≡ good rs → r ≡ verdict rs ws
+abbrev pub VerdictIs : List ℕ → List ℕ → Verdict → Type 0
+VerdictIs rws ws r = (rs : List Rule) → ruleTable rws ≡ good rs → r ≡ verdict rs ws

@@ -8,7 +8,7 @@ use native.Mathlib.Nat.{add-assoc, zero-add, add-zero}
 use native.Mathlib.Omega.{arith}
 use Rattle.model.specs.declared.Connection.{Connection}
 use Rattle.model.specs.declared.NodeNo.{NodeNo}
-use Rattle.model.specs.Forest.{cur, nxt, root, joined, Parent, top, below, parentOf}
+use Rattle.model.specs.Forest.{cur, root, joined, Parent, top, below, parentOf}
 use Rattle.paths.specs.Hangs.{nextOf, depth, Forest}
 use Rattle.paths.specs.Meet.{topOf, meetOf}
 use Rattle.paths.specs.declared.Meeting.the-variants.{At, Nowhere}
@@ -32,7 +32,7 @@ unfolding weigh
 weigh-self rows cs n = walk-self 0 _+_ (λ older _ c u. costIn rows (cur c)) cs n
 
 -- one step of a climb
-pub record Step (rows : List ℕ) (cs : List Connection) (n at to up : ℕ) : Type 0 where
+pub record Rise (rows : List ℕ) (cs : List Connection) (n at to up : ℕ) : Type 0 where
   pub inside : up < n
   pub above : Above cs up to
   pub cost : weigh rows cs at to ≡ costIn rows at + weigh rows cs up to
@@ -42,10 +42,10 @@ module _ {cs : List Connection} {n : ℕ} {rows : List ℕ} (k : Climbs cs n row
   abbrev f : Forest cs
   f = k .rooted .forest
 
-  step-by : (i : ℕ) → i ≤ depth cs at → climbBy cs i at ≡ to → Step rows cs n at to up
+  rise-by : (i : ℕ) → i ≤ depth cs at → climbBy cs i at ≡ to → Rise rows cs n at to up
   unfolding climbBy weigh
-  step-by zero d p = absurd (e p)
-  step-by (suc i) d p =
+  rise-by zero d p = absurd (e p)
+  rise-by (suc i) d p =
       let t = depth-climb (suc i) cs at f d in
       let v : up ≡ nextOf cs at = u ∙ k .next at h in
       elim (place cs at f) [
@@ -61,8 +61,8 @@ module _ {cs : List Connection} {n : ℕ} {rows : List ℕ} (k : Climbs cs n row
             }
       ]
 
-  pub step : Above cs at to → Step rows cs n at to up
-  step a = step-by (a .steps) (a .enough) (a .leads)
+  pub rise : Above cs at to → Rise rows cs n at to up
+  rise a = rise-by (a .steps) (a .enough) (a .leads)
 
 -- a climb on its way, and what it has cost so far
 pub record Paid (rows : List ℕ) (cs : List Connection) (n from to at sum : ℕ) : Type 0 where
@@ -71,8 +71,8 @@ pub record Paid (rows : List ℕ) (cs : List Connection) (n from to at sum : ℕ
   pub total : held (sum + weigh rows cs at to) ≡ held (weigh rows cs from to)
 
 module _ {rows : List ℕ} {cs : List Connection} {n from to at sum : ℕ} (k : Climbs cs n rows) (w : Paid rows cs n from to at sum) where
-  pub onward : (up : ℕ) → (at ≡ to → ⊥) → up ≡ nextIn rows at → Step rows cs n at to up
-  onward up e u = step k at to up (w .inside) e u (w .above)
+  pub onward : (up : ℕ) → (at ≡ to → ⊥) → up ≡ nextIn rows at → Rise rows cs n at to up
+  onward up e u = rise k at to up (w .inside) e u (w .above)
 
   pub paid-more : (up t : ℕ) → (at ≡ to → ⊥) → up ≡ nextIn rows at → t ≡ held (sum + costIn rows at) → Paid rows cs n from to up t
   paid-more up t e u v =

@@ -1,6 +1,6 @@
 -- What accepted tables give to whoever pays: each connection's nodes, and a congruence's children, joined by the older connections.
-use Prim.Native.Nat.{ℕ, _*_, _<_, _≤_}
-use mathlib.Core.Path.{_≡_, refl, _∙_, sym, ap}
+use Prim.Native.Nat.{ℕ, _*_, _<_}
+use mathlib.Core.Path.{_≡_, refl, _∙_, sym}
 use mathlib.Core.List.{List, _++_}
 use lib.ListN.{drop, length}
 use native.Mathlib.Omega.{arith}
@@ -10,7 +10,7 @@ use Rattle.model.specs.declared.RuleNo.{RuleNo}
 use Rattle.model.specs.declared.Justification.{Justification}
 use Rattle.model.specs.declared.Justification.the-variants.{Rule as byRule, Congruence}
 use Rattle.model.specs.Node.{Node, kidsOf}
-use Rattle.model.specs.Forest.{cur, nxt, root, costBy, sumPairs}
+use Rattle.model.specs.Forest.{cur, nxt, costBy, sumPairs}
 use Rattle.paths.specs.Hangs.{Paired}
 use Rattle.paths.proofs.Accept.{kin}
 use Rattle.entries.specs.Connections.{Supported, connectionIn, oldest}

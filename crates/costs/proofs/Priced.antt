@@ -1,7 +1,6 @@
 -- Rows whose costs are written in the order of age: what else stands in them is kept, and the sums are the distances, held at the cap.
 use Prim.Native.Nat.{ℕ, zero, suc, _*_, _+_, _≤_, _<_}
-use mathlib.Core.Path.{_≡_, refl, sym, ap, ap₂, _∙_}
-use mathlib.Core.Bool.{Bool}
+use mathlib.Core.Path.{_≡_, refl, sym, ap, _∙_}
 use mathlib.Core.List.{List, [], _∷_}
 use native.Mathlib.Omega.{arith}
 use native.Mathlib.Numerals.{add-one}
@@ -9,7 +8,7 @@ use native.Mathlib.Decide.{ℕ-discrete, decLe}
 use borrow.Author.Tests.{lt-ltb, le-ltb}
 use lib.Dec.{ltb}
 use lib.Seq.{getD-set-same, getD-set-other}
-use lib.ListN.{length, getD, set, length-set}
+use lib.ListN.{getD, set, length-set}
 use Rattle.model.specs.declared.Connection.{Connection}
 use Rattle.model.specs.declared.Justification.{Justification}
 use Rattle.model.specs.declared.Justification.the-variants.{Rule as byRule, Congruence}
@@ -19,7 +18,7 @@ use Rattle.model.specs.Forest.{cur, nxt, root, dist, costBy, sumPairs}
 use Rattle.paths.specs.Hangs.{Forest, Paired, Within}
 use Rattle.paths.proofs.Related.{Steps, related}
 use Rattle.entries.specs.Connections.{connectionIn, oldest}
-use Rattle.forest.specs.Rows.{Climbs, ageWord, costIn, costWord, depthWord, nextWord, rowWords}
+use Rattle.forest.specs.Rows.{ageWord, costIn, costWord, depthWord, nextWord, rowWords}
 use Rattle.forest.proofs.Climbing.{within-at}
 use Rattle.forest.proofs.Older.{starts-apart, walk-older}
 use Rattle.costs.specs.Costs.{Charged, Filled, costAt, costCap, held, priced, weigh}

@@ -4,3 +4,5 @@ pub mod Answers
 pub mod DemandTwo
 pub mod DemandThree
 pub mod Inhabited
+pub mod Only
+pub mod Queries

@@ -1,14 +1,24 @@
 -- The distance of a pair, refusal by refusal.
 -- Assumes nothing.
-use Prim.Native.Nat.{ℕ, _≤_, _<_}
+use Prim.Native.Nat.{ℕ, _/_, _≤_, _<_}
 use mathlib.Core.Bool.{true, false}
+use mathlib.Core.List.{List}
 use mathlib.Core.Path.{_≡_}
+use native.Mathlib.Omega.{arith}
 use borrow.Author.Tests.{lt-ltb, le-ltb}
 use lib.ListN.{length}
 use Rattle.model.specs.declared.Measured.the-variants.{Distance, Unmeasured}
 use Rattle.model.specs.Limits.{distanceLimit}
 use Rattle.model.specs.Forest.{joined, dist}
 use Rattle.model.specs.Query.{Tables, measure}
+use Rattle.model.specs.Tables.{connectionWords}
+use Rattle.entries.specs.Nodes.{nodesOf}
+use Rattle.entries.specs.Connections.{Supported}
+use Rattle.forest.specs.Rows.{listed}
+use Rattle.forest.proofs.Rooted.{rooted}
+use Rattle.costs.specs.Costs.{nodesIn, priced, Charged, Between}
+use Rattle.costs.proofs.Priced.{charged-priced, filled-priced}
+use Rattle.explanation.specs.Measure.{Ways}
 
 module _ (t : Tables) (l r : ℕ) where
   pub no-left : length (t .nodes) ≤ l → Unmeasured 8 ≡ measure t l r
@@ -36,3 +46,16 @@ module _ (t : Tables) (l r : ℕ) where
       near e h =
           rw
           (lt-ltb l (length (t .nodes)) in-left, lt-ltb r (length (t .nodes)) in-right, e, le-ltb distanceLimit (dist (t .nodes) (t .conns) l r) h)
+
+-- what is there once a distance was found
+pub ways : {nws cws rows rows′ : List ℕ} {l r : ℕ} → Supported nws (nodesIn nws) cws (length cws / connectionWords) → Between nws cws l r →
+    Charged (listed cws) (nodesIn nws) rows → rows′ ≡ priced (nodesOf nws) cws (length cws / connectionWords) rows → Ways nws cws l r rows′
+ways {nws} {cws} {rows} s b c e =
+    let k = length cws / connectionWords in
+    let r = rooted s in
+    rw e
+    record {
+      between = b;
+      charged = charged-priced (nodesOf nws) cws c k (r .within) (r .forest) k (omega arith);
+      filled = filled-priced (nodesOf nws) cws c k (r .within) (r .forest) k (omega arith);
+    }

@@ -13,7 +13,7 @@ use Rattle.model.specs.Judged.{Judged, good, bad, judgementOf}
 use Rattle.model.specs.Rule.{Rule}
 use Rattle.model.specs.Node.{Node}
 use Rattle.model.specs.Query.{Tables}
-use Rattle.model.specs.Tables.{nodeWords, ruleWords, connectionWords, nodeTable, ruleTable, connectionTable, withNodes, withConnections, judgeTables, measureBy, verdictBy}
+use Rattle.model.specs.Tables.{nodeWords, connectionWords, nodeTable, ruleTable, connectionTable, withNodes, withConnections, judgeTables, measureBy, verdictBy}
 use Rattle.laws.proofs.Judging.{taken-good, faulty-bad}
 use Rattle.paths.specs.Hangs.{Accepted}
 use Rattle.entries.specs.Nodes.{NodesWhole, nodesOf}
@@ -21,8 +21,6 @@ use Rattle.entries.specs.Connections.{Supported, oldest}
 use Rattle.entries.proofs.Nodes.{nodes-whole}
 use Rattle.entries.proofs.Connections.{connections}
 use Rattle.forest.specs.Rows.{listed}
-use Rattle.rule_table.specs.Entries.{rulesIn}
-use Rattle.rule_table.proofs.Table.{table-accepted}
 
 -- a table that is refused
 module _ (nws rws cws : List ℕ) where
@@ -68,9 +66,8 @@ pub parts : (nws rws cws : List ℕ) (t : Tables) → judgeTables nws rws cws �
 unfolding judgeTables
 parts nws rws cws t e = parts-by nws rws cws t (nodeTable nws) refl (ruleTable rws) refl e
 
--- what the checker and climbing want of them
+-- what climbing wants of them
 pub record Whole (nws rws cws : List ℕ) (t : Tables) : Type 0 where
-  pub rules : rulesIn rws (length rws / ruleWords) ≡ good (t .rules)
   pub support : Supported nws (length nws / nodeWords) cws (length cws / connectionWords)
   pub nodes : t .nodes ≡ nodesOf nws
   pub conns : t .conns ≡ listed cws
@@ -86,7 +83,6 @@ whole nws rws cws t e =
     let b = connections (nodesOf nws) cws k (t .conns) c in
     let q : k ≡ length cws / connectionWords = omega (arith, b .room) in
     record {
-      rules = table-accepted rws (t .rules) (p .rules);
       support = record { table = a .stand; accepted = subst (λ (m : ℕ). Accepted (nodesOf nws) (oldest m cws)) q (b .accepted) };
       nodes = ns;
       conns = b .is ∙ ap (λ (m : ℕ). oldest m cws) q;

@@ -6,7 +6,6 @@ use model::Judgement;
 use model::Measured;
 use model::NODE_WORDS;
 use model::NodeNo;
-use model::RULE_WORDS;
 use model::Verdict;
 use model::wide;
 ghost use mathlib.Core.Path.{_≡_};
@@ -17,7 +16,8 @@ ghost use Rattle.model.specs.Query.{measureReport};
 ghost use Rattle.model.specs.Tables.{nodeWords, connectionWords, judgeTables, measureBy, verdictBy};
 ghost use Rattle.model.specs.Verdict.{reportOf};
 ghost use Rattle.entries.specs.Connections.{Supported};
-ghost use Rattle.explanation.specs.Measure.{Measures};
+ghost use Rattle.forest.specs.Rows.{tableWords};
+ghost use Rattle.explanation.specs.Measure.{Measures, Routed};
 
 // Tables handed in whole are judged before all else: nodes, rules, connections; the first bad entry decides.
 fn judge_tables(nodes: &[u16], rules: &[u16], connections: &[u16]) -> Judgement
@@ -42,13 +42,21 @@ pub fn check(nodes: &[u16], rules: &[u16], connections: &[u16], words: &[u16]) -
     if let Judgement::Faulty(number) = judged {
         return Verdict::Rejected(number, 0);
     }
-    checker::check(rules, rules.len() / RULE_WORDS, words)
+    checker::check(rules, words)
 }
 
-// The distance of two nodes of accepted tables: 8, 9, 10, or the distance.
-fn measure(nodes: &[u16], connections: &[u16], left: NodeNo, right: NodeNo) -> Measured
+// The distance of two nodes of accepted tables: 8, 9, 10, or the distance. Where there is one, the rows hold what climbing wants.
+fn measure(
+    nodes: &[u16],
+    connections: &[u16],
+    left: NodeNo,
+    right: NodeNo,
+    rows: &mut [u16; TABLE_WORDS],
+) -> Measured
     requires { ⌜ Supported (now nodes) (length (now nodes) / nodeWords) (now connections) (length (now connections) / connectionWords) ⌝ }
+    requires { ⌜ length (now rows) ≡ tableWords ⌝ }
     ensures { λ r. ⌜ Measures (now (nodes .entry)) (now (connections .entry)) (left .0) (right .0) r ⌝ }
+    ensures { λ r. ⌜ Routed (now (nodes .entry)) (now (connections .entry)) (left .0) (right .0) r (now (rows .exit)) ⌝ }
 {
     let n = nodes.len() / NODE_WORDS;
     if n <= wide(left.0) {
@@ -57,12 +65,11 @@ fn measure(nodes: &[u16], connections: &[u16], left: NodeNo, right: NodeNo) -> M
     if n <= wide(right.0) {
         return Measured::Unmeasured(8);
     }
-    let mut rows = [0u16; TABLE_WORDS];
-    forest::fill_rows(connections, n, &mut rows);
-    if !forest::joined(&rows, left, right) {
+    forest::fill_rows(connections, n, rows);
+    if !forest::joined(rows, left, right) {
         return Measured::Unmeasured(9);
     }
-    let d = costs::distance(nodes, connections, &mut rows, left, right);
+    let d = costs::distance(nodes, connections, rows, left, right);
     if d > DISTANCE_LIMIT {
         return Measured::Unmeasured(10);
     }
@@ -83,7 +90,8 @@ pub fn distance(
     if let Judgement::Faulty(number) = judged {
         return Measured::Unmeasured(number);
     }
-    measure(nodes, connections, left, right)
+    let mut rows = [0u16; TABLE_WORDS];
+    measure(nodes, connections, left, right, &mut rows)
 }
 
 // The same for C: the number is returned (0 for success), the count of terms or the place stands behind `value`.

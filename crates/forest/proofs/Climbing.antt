@@ -1,12 +1,12 @@
 -- One step of a climb by the rows: where it leads, and how deep that is.
 use Prim.Native.Nat.{ℕ, zero, suc, _+_, _-_, _*_, _<_, _≤_}
 use mathlib.Core.List.{List, [], _∷_}
-use mathlib.Core.Logic.{_⊎_, inl, inr, ⊎-elim}
+use mathlib.Core.Logic.{_⊎_, inr, ⊎-elim}
 use mathlib.Core.Path.{_∙_, _≡_, ap, refl, sym}
 use native.Mathlib.Decide.{ℕ-discrete}
 use native.Mathlib.Omega.{arith}
-use lib.ListN.{length, set}
-use Rattle.model.specs.Forest.{below, cur, nxt, parentOf, top}
+use lib.ListN.{set}
+use Rattle.model.specs.Forest.{below, cur, parentOf}
 use Rattle.model.specs.Limits.{nodeLimit}
 use Rattle.model.specs.declared.Connection.{Connection}
 use Rattle.paths.proofs.Bound.{depth-le}
@@ -19,8 +19,8 @@ use Rattle.paths.specs.Meet.{meetOf}
 use Rattle.paths.specs.declared.Meeting.the-variants.{Nowhere}
 use Rattle.entries.specs.Connections.{connectionIn, oldest}
 use Rattle.forest.specs.Rows.{Climbs, Rooted, ageIn, ageOf, depthIn, depthWord, nextIn, rowWords}
-use Rattle.forest.specs.Filling.{Known, Settled, Sounded, Tied}
-use Rattle.forest.proofs.Ages.{age-new, age-old, age-top}
+use Rattle.forest.specs.Filling.{DepthsKnown, Settled, Sounded, Tied}
+use Rattle.forest.proofs.Ages.{age-old, age-top}
 use Rattle.forest.proofs.Filled.{depth-here, right-depth, still-known, tied-depth}
 
 record Parented (cs : List Connection) (n : ℕ) : Type 0 where
@@ -126,8 +126,8 @@ resounded s =
       right = s .right;
     }
 
-pub known-more : {cs : List Connection} {n : ℕ} {old before rows : List ℕ} {i : ℕ} → Known i before → Settled cs n old before rows i →
-    Known (i + 1) rows
+pub known-more : {cs : List Connection} {n : ℕ} {old before rows : List ℕ} {i : ℕ} → DepthsKnown i before → Settled cs n old before rows i →
+    DepthsKnown (i + 1) rows
 known-more {i = i} k s = λ a h. elim (ℕ-discrete a i) [ yes q ↦ rw q (s .here) | no q ↦ s .kept a (k a (omega arith)) ]
 
 -- two climbs that have not met

@@ -15,8 +15,8 @@ use Rattle.paths.proofs.Laws.{parent-new, parent-old}
 use Rattle.paths.specs.Hangs.{depth, nextOf}
 use Rattle.entries.proofs.Connections.{length-oldest}
 use Rattle.entries.specs.Connections.{connectionIn, oldest}
-use Rattle.forest.specs.Filling.{Tied, Unknown}
-use Rattle.forest.specs.Rows.{ageIn, ageOf, costIn, depthIn, nextIn, ageWord, costWord, depthWord, nextWord, rowOf, rowWords, rowsOf, tableWords}
+use Rattle.forest.specs.Filling.{Tied, DepthsUnknown}
+use Rattle.forest.specs.Rows.{ageIn, ageOf, depthIn, nextIn, ageWord, costWord, depthWord, nextWord, rowOf, rowWords, rowsOf, tableWords}
 use Rattle.forest.proofs.Ages.{age-new, age-old}
 
 next-new : (c : Connection) (cs : List Connection) → nextOf (c ∷ cs) (cur c) ≡ nxt c
@@ -74,8 +74,8 @@ tied-next conns age {n} {old} {rows} t few h =
     subst (λ (k : ℕ). Tied (oldest k conns) n old (set (set rows (cur c * rowWords + nextWord) (nxt c)) (cur c * rowWords + ageWord) (age + 1)))
     (sym (add-one age)) (tied-more c t few h e)
 
-pub unknown-more : (rows : List ℕ) (n m v w : ℕ) → length rows ≡ tableWords → m < nodeLimit → Unknown n rows →
-    Unknown n (set (set rows (m * rowWords + nextWord) v) (m * rowWords + ageWord) w)
+pub unknown-more : (rows : List ℕ) (n m v w : ℕ) → length rows ≡ tableWords → m < nodeLimit → DepthsUnknown n rows →
+    DepthsUnknown n (set (set rows (m * rowWords + nextWord) v) (m * rowWords + ageWord) w)
 unknown-more rows n m v w s h u = λ a p.
     hung-other rows s m v w h (a * rowWords + depthWord) (λ x. omega arith) (λ x. omega arith) ∙ u a p
 
@@ -121,7 +121,7 @@ module _ {old rows : List ℕ} {i : ℕ} (t : Tied [] i old rows) (h : i < nodeL
         rest = λ j p. begun-other j (inr (omega arith)) ∙ t .rest j (omega arith);
       }
 
-  pub unknown-begun : Unknown i rows → Unknown (i + 1) begun
+  pub unknown-begun : DepthsUnknown i rows → DepthsUnknown (i + 1) begun
   unknown-begun u = λ a p. elim (ℕ-discrete a i) [
     | yes q ↦
         rw q (getD-set-same (set two (i * rowWords + costWord) 0) (i * rowWords + depthWord) 0 0 (simp length-set (omega (arith, t .size))))

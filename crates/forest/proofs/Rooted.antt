@@ -1,11 +1,10 @@
 -- Accepted connections can be climbed, and the rows that are filled from them stand for them, with no cost.
 use Prim.Native.Nat.{ℕ, _*_, _+_, _<_, _≤_}
 use mathlib.Core.List.{List, [], _++_, _∷_}
-use mathlib.Core.Path.{_∙_, _≡_, ap}
+use mathlib.Core.Path.{_∙_, _≡_}
 use native.Mathlib.Omega.{arith}
 use lib.ListN.{List·getD-append, drop, getD, length, length-append, length-drop}
 use Rattle.model.specs.Limits.{nodeLimit}
-use Rattle.model.specs.Node.{Node}
 use Rattle.model.specs.declared.Connection.{Connection}
 use Rattle.paths.proofs.Accept.{accepted-forest, accepted-within}
 use Rattle.paths.proofs.Count.{connections-few}

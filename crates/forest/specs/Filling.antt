@@ -16,12 +16,12 @@ pub record Tied (cs : List Connection) (n : ℕ) (old rows : List ℕ) : Type 0 
   pub rest : (i : ℕ) → n * rowWords ≤ i → getD rows i 0 ≡ getD old i 0
 
 -- no depth is there
-abbrev pub Unknown : ℕ → List ℕ → Type 0
-Unknown n rows = (a : ℕ) → a < n → depthIn rows a ≡ 0
+abbrev pub DepthsUnknown : ℕ → List ℕ → Type 0
+DepthsUnknown n rows = (a : ℕ) → a < n → depthIn rows a ≡ 0
 
 -- the first k depths are there
-abbrev pub Known : ℕ → List ℕ → Type 0
-Known k rows = (a : ℕ) → a < k → 0 < depthIn rows a
+abbrev pub DepthsKnown : ℕ → List ℕ → Type 0
+DepthsKnown k rows = (a : ℕ) → a < k → 0 < depthIn rows a
 
 -- the rows of connections, and a depth that is there is right
 pub record Sounded (cs : List Connection) (n : ℕ) (old rows : List ℕ) : Type 0 where

@@ -18,7 +18,7 @@ ghost use Rattle.model.specs.Forest.{cur, nxt, joined};
 ghost use Rattle.paths.specs.Hangs.{depth};
 ghost use Rattle.paths.specs.Meet.{meetOf};
 ghost use Rattle.forest.specs.Rows.{rowWords, tableWords, nextWord, ageWord, costWord, depthWord, nextIn, ageIn, costIn, depthIn, listed, Rooted, Climbs, Ends, rowsOf};
-ghost use Rattle.forest.specs.Filling.{Tied, Unknown, Known, Sounded, Sounding, Settled, Unsettled};
+ghost use Rattle.forest.specs.Filling.{Tied, DepthsUnknown, DepthsKnown, Sounded, Sounding, Settled, Unsettled};
 
 // The words of a row and of a table, and where in a row each word stands; specs/Rows.antt has the same.
 const ROW_WORDS: usize = 4;
@@ -114,7 +114,7 @@ fn put_parent(rows: &mut [u16; TABLE_WORDS], c: Connection, age: usize)
 // Makes each of n nodes one without a parent.
 fn put_tops(n: usize, rows: &mut [u16; TABLE_WORDS])
     requires { ⌜ (n ≤ nodeLimit) × (length (now rows) ≡ tableWords) ⌝ }
-    ensures { λ _. ⌜ Tied [] n (now (rows .entry)) (now (rows .exit)) × Unknown n (now (rows .exit)) ⌝ }
+    ensures { λ _. ⌜ Tied [] n (now (rows .entry)) (now (rows .exit)) × DepthsUnknown n (now (rows .exit)) ⌝ }
 {
     let mut i: usize = 0;
     while i < n {
@@ -157,7 +157,7 @@ fn settle(rows: &mut [u16; TABLE_WORDS], n: NodeNo)
 // Writes the depths of n nodes, each once: a climb ends where the depth is known.
 fn settle_all(n: usize, rows: &mut [u16; TABLE_WORDS])
     requires { ⌜ Unsettled n (now rows) ⌝ }
-    ensures { λ _. ⌜ ((cs : List Connection) (old : List ℕ) → Sounded cs n old (now (rows .entry)) → Sounded cs n old (now (rows .exit)) × Known n (now (rows .exit))) ⌝ }
+    ensures { λ _. ⌜ ((cs : List Connection) (old : List ℕ) → Sounded cs n old (now (rows .entry)) → Sounded cs n old (now (rows .exit)) × DepthsKnown n (now (rows .exit))) ⌝ }
 {
     let mut i: usize = 0;
     while i < n {

@@ -1,3 +1,4 @@
-pub mod Left
+pub mod Remaining
 pub mod Seen
 pub mod Nest
+pub mod Only

@@ -4,15 +4,15 @@ use Prim.Native.Nat.{ℕ, _+_, _-_, _*_, _≤_, _<_}
 use mathlib.Core.Bool.{Bool, true, false, _||_, or-assoc}
 use mathlib.Core.List.{List}
 use mathlib.Core.Path.{_≡_, refl, sym, _∙_, ap}
-use native.Mathlib.Omega.{arith}
-use lib.ListN.{length, getD}
+use lib.ListN.{length}
+use Rattle.model.specs.Limits.{flatWords}
 use Rattle.model.specs.Term.{Mark, unmarked, marked, Terms, noTerms, tree, Term, one, join, markWord}
 use Rattle.model.specs.Step.{someMark, isMark, nestedIn, nested}
-use Rattle.terms.specs.Place.{TermAt, Well, EndsAt}
+use Rattle.terms.specs.Place.{TermAt, Well, EndsAt, nodeOf}
 use Rattle.terms.proofs.Place.{term-row}
 use Rattle.terms.proofs.Read.{direction-some}
 use Rattle.marks.specs.Marks.{HasRow, MarkedIs, NestedIs}
-use Rattle.marks.proofs.Left.{Left, left-down, left-over, left-first, left-none, left-room, left-few, left-well}
+use Rattle.marks.proofs.Remaining.{Remaining, remaining-down, remaining-over, remaining-first, remaining-none, remaining-room, remaining-few, remaining-well}
 
 -- in rows one behind the other
 pub nested-join : (k s : Terms) → nested (join k s) ≡ (nested k || nested s)
@@ -34,51 +34,51 @@ inside o (marked d n) k s e = refl
 
 -- where the walk is: what is left has a nested mark exactly where the whole term has
 pub NestHere : List ℕ → ℕ → ℕ → ℕ → Type 0
-NestHere ws at pos pending = (e : ℕ) (t : Term) → TermAt ws at e t → Left ws pos pending (λ g. nested g ≡ nested (one t))
+NestHere ws at pos pending = (e : ℕ) (t : Term) → TermAt ws at e t → Remaining ws pos pending (λ g. nested g ≡ nested (one t))
 
 pub nest-first : (ws : List ℕ) (at : ℕ) → NestHere ws at at 1
 unfolding NestHere
 nest-first ws at e t h = record { rest = one t; is = term-row ws at e t h; holds = refl }
 
 module _ (ws : List ℕ) (at pos pending : ℕ) (here : NestHere ws at pos pending) where
-  pub nest-down : 0 < pending → getD ws (pos + 2) 0 ≡ 0 → NestHere ws at (pos + 4) (pending - 1 + getD ws (pos + 1) 0)
+  pub nest-down : 0 < pending → nodeOf ws pos .mark ≡ 0 → NestHere ws at (pos + flatWords) (pending - 1 + nodeOf ws pos .count)
   unfolding NestHere
   nest-down l z e t h =
-      left-down ws pos (λ g. nested g ≡ nested (one t)) (λ g. nested g ≡ nested (one t)) pending
+      remaining-down ws pos (λ g. nested g ≡ nested (one t)) (λ g. nested g ≡ nested (one t)) pending
       (λ o m k s w r p. down o m k s (sym w ∙ z) ∙ p) l (here e t h)
 
-  pub nest-over : 0 < pending → (getD ws (pos + 2) 0 ≡ 0 → ⊥) → MarkedIs ws (pos + 4) (getD ws (pos + 1) 0) false → (stop : ℕ) → EndsAt ws pos stop
+  pub nest-over : 0 < pending → (nodeOf ws pos .mark ≡ 0 → ⊥) → MarkedIs ws (pos + flatWords) (nodeOf ws pos .count) false → (stop : ℕ) → EndsAt ws pos stop
       → NestHere ws at stop (pending - 1)
   unfolding NestHere
   nest-over l z none stop x e t h =
-      left-over ws pos (λ g. nested g ≡ nested (one t)) (λ g. nested g ≡ nested (one t)) pending stop x
+      remaining-over ws pos (λ g. nested g ≡ nested (one t)) (λ g. nested g ≡ nested (one t)) pending stop x
       (λ o m k s w r p. sym (inside o m k s (λ q. z (w ∙ q)) ∙ ap (λ (b : Bool). b || nested s) (sym (none k r))) ∙ p) l (here e t h)
 
-  pub nest-found : 0 < pending → (getD ws (pos + 2) 0 ≡ 0 → ⊥) → MarkedIs ws (pos + 4) (getD ws (pos + 1) 0) true → NestedIs ws at true
+  pub nest-found : 0 < pending → (nodeOf ws pos .mark ≡ 0 → ⊥) → MarkedIs ws (pos + flatWords) (nodeOf ws pos .count) true → NestedIs ws at true
   unfolding NestHere
   nest-found l z some e t h =
-      let f = left-first ws pos (λ g. nested g ≡ nested (one t)) pending l (here e t h) in
+      let f = remaining-first ws pos (λ g. nested g ≡ nested (one t)) pending l (here e t h) in
       let i = inside (f .op) (f .mark) (f .kids) (f .behind) (λ q. z (f .word ∙ q)) in
       sym (sym (f .holds) ∙ (i ∙ ap (λ (b : Bool). b || nested (f .behind)) (sym (some (f .kids) (f .row)))))
 
   pub nest-done : pending ≡ 0 → NestedIs ws at false
   unfolding NestHere nested
-  nest-done z e t h = left-none ws pos (λ g. nested g ≡ nested (one t)) pending z (here e t h)
+  nest-done z e t h = remaining-none ws pos (λ g. nested g ≡ nested (one t)) pending z (here e t h)
 
-  pub nest-kids : Well ws at → 0 < pending → HasRow ws (pos + 4) (getD ws (pos + 1) 0)
+  pub nest-kids : Well ws at → 0 < pending → HasRow ws (pos + flatWords) (nodeOf ws pos .count)
   unfolding NestHere
   nest-kids w l =
-      let f = left-first ws pos _ pending l (here (w .end) (w .term) (w .is)) in
+      let f = remaining-first ws pos _ pending l (here (w .end) (w .term) (w .is)) in
       record { terms = f .kids; is = f .row }
 
-  pub nest-room : Well ws at → 0 < pending → pos + 4 ≤ length ws
+  pub nest-room : Well ws at → 0 < pending → pos + flatWords ≤ length ws
   unfolding NestHere
-  nest-room w l = left-room ws pos _ pending l (here (w .end) (w .term) (w .is))
+  nest-room w l = remaining-room ws pos _ pending l (here (w .end) (w .term) (w .is))
 
-  pub nest-few : Well ws at → 4 * pending ≤ length ws
+  pub nest-few : Well ws at → flatWords * pending ≤ length ws
   unfolding NestHere
-  nest-few w = left-few ws pos _ pending (here (w .end) (w .term) (w .is))
+  nest-few w = remaining-few ws pos _ pending (here (w .end) (w .term) (w .is))
 
   pub nest-well : Well ws at → 0 < pending → Well ws pos
   unfolding NestHere
-  nest-well w l = left-well ws pos _ pending l (here (w .end) (w .term) (w .is))
+  nest-well w l = remaining-well ws pos _ pending l (here (w .end) (w .term) (w .is))

@@ -1,4 +1,4 @@
--- The marks of what is left of a row, and of the whole.
+-- The directions of the marks of what is left of a row, and of the whole.
 -- Assumes nothing.
 use Prim.Native.Nat.{ℕ, _+_, _-_, _*_, _≤_, _<_}
 use mathlib.Core.Bool.{Bool, true, false, _||_, or-assoc, or-false, or-true}
@@ -6,15 +6,16 @@ use borrow.Author.Tests.{ne-eqb}
 use mathlib.Core.List.{List}
 use mathlib.Core.Path.{_≡_, refl, sym, _∙_, ap}
 use lib.Dec.{eqb}
-use lib.ListN.{length, getD}
+use lib.ListN.{length}
+use Rattle.model.specs.Limits.{flatWords}
 use Rattle.model.specs.declared.Direction.{Direction}
 use Rattle.model.specs.declared.Direction.the-variants.{Forward, Backward}
 use Rattle.model.specs.Term.{Mark, unmarked, marked, Terms, noTerms, tree, join, directionWord, markWord}
 use Rattle.model.specs.Step.{someMark, goes, isMark}
-use Rattle.marks.specs.declared.Marks.{Marks}
-use Rattle.marks.specs.Marks.{HasRow, withWord, marksOf, MarksIs}
-use Rattle.terms.specs.Place.{RowAt}
-use Rattle.marks.proofs.Left.{Left, left-down, left-none, left-room, left-few}
+use Rattle.marks.specs.declared.Directions.{Directions}
+use Rattle.marks.specs.Marks.{HasRow, withWord, directionsOf, DirectionsAre}
+use Rattle.terms.specs.Place.{RowAt, nodeOf}
+use Rattle.marks.proofs.Remaining.{Remaining, remaining-down, remaining-none, remaining-room, remaining-few}
 
 pub some-join : (p : Mark → Bool) (k s : Terms) → someMark p (join k s) ≡ (someMark p k || someMark p s)
 unfolding someMark join
@@ -45,7 +46,7 @@ some-either (tree o m k s) =
     ∙ either (goes Forward m) (goes Backward m) (someMark (goes Forward) k || someMark (goes Forward) s) (someMark (goes Backward) k || someMark (goes Backward) s))
 
 -- what was seen so far with what is left
-abbrev pub merge : Marks → Marks → Marks
+abbrev pub merge : Directions → Directions → Directions
 merge a b = record { forward = a .forward || b .forward; backward = a .backward || b .backward }
 
 -- one more node was seen: the same in the end
@@ -62,7 +63,7 @@ goes-word Forward (marked Backward n) = refl
 goes-word Backward (marked Forward n) = refl
 goes-word Backward (marked Backward n) = refl
 
-pub seen-down : (a : Marks) (w o : ℕ) (m : Mark) (k s : Terms) → w ≡ markWord m → merge (withWord a w) (marksOf (join k s)) ≡ merge a (marksOf (tree o m k s))
+pub seen-down : (a : Directions) (w o : ℕ) (m : Mark) (k s : Terms) → w ≡ markWord m → merge (withWord a w) (directionsOf (join k s)) ≡ merge a (directionsOf (tree o m k s))
 unfolding someMark
 seen-down a w o m k s e = λ i.
     record {
@@ -70,56 +71,56 @@ seen-down a w o m k s e = λ i.
       backward = one-more (goes Backward) (a .backward) (eqb w 2) m k s (ap (λ (x : ℕ). eqb x 2) e ∙ goes-word Backward m) i;
     }
 
-pub seen-all : (a : Marks) → merge a (marksOf noTerms) ≡ a
+pub seen-all : (a : Directions) → merge a (directionsOf noTerms) ≡ a
 unfolding someMark
 seen-all a = λ i. record { forward = or-false (a .forward) i; backward = or-false (a .backward) i }
 
 -- a mark word by cases
-pub word-forward : (a : Marks) (w : ℕ) → w ≡ 1 → record { forward = true; backward = a .backward } ≡ withWord a w
+pub word-forward : (a : Directions) (w : ℕ) → w ≡ 1 → record { forward = true; backward = a .backward } ≡ withWord a w
 word-forward a w e = rw e (λ i. record { forward = sym (or-true (a .forward)) i; backward = sym (or-false (a .backward)) i })
 
-pub word-backward : (a : Marks) (w : ℕ) → w ≡ 2 → record { forward = a .forward; backward = true } ≡ withWord a w
+pub word-backward : (a : Directions) (w : ℕ) → w ≡ 2 → record { forward = a .forward; backward = true } ≡ withWord a w
 word-backward a w e = rw e (λ i. record { forward = sym (or-false (a .forward)) i; backward = sym (or-true (a .backward)) i })
 
-pub word-other : (a : Marks) (w : ℕ) → (w ≡ 1 → ⊥) → (w ≡ 2 → ⊥) → a ≡ withWord a w
+pub word-other : (a : Directions) (w : ℕ) → (w ≡ 1 → ⊥) → (w ≡ 2 → ⊥) → a ≡ withWord a w
 word-other a w h h′ =
     rw (ne-eqb w 1 h, ne-eqb w 2 h′)
     (λ i. record { forward = sym (or-false (a .forward)) i; backward = sym (or-false (a .backward)) i })
 
--- where the walk over marks is: what was seen, with the marks of what is left, are the marks of the row
-pub SeenHere : List ℕ → ℕ → ℕ → Marks → ℕ → ℕ → Type 0
-SeenHere ws at n a pos pending = (f : Terms) → RowAt ws at n f → Left ws pos pending (λ g. merge a (marksOf g) ≡ marksOf f)
+-- where the walk over marks is: the directions seen, with those of what is left, are those of the row
+pub SeenHere : List ℕ → ℕ → ℕ → Directions → ℕ → ℕ → Type 0
+SeenHere ws at n a pos pending = (f : Terms) → RowAt ws at n f → Remaining ws pos pending (λ g. merge a (directionsOf g) ≡ directionsOf f)
 
 pub seen-first : (ws : List ℕ) (at n : ℕ) → SeenHere ws at n (record { forward = false; backward = false }) at n
 unfolding SeenHere
 seen-first ws at n f h = record { rest = f; is = h; holds = refl }
 
-module _ (ws : List ℕ) (at n : ℕ) (a : Marks) (pos pending : ℕ) (here : SeenHere ws at n a pos pending) where
-  pub seen-next : 0 < pending → SeenHere ws at n (withWord a (getD ws (pos + 2) 0)) (pos + 4) (pending - 1 + getD ws (pos + 1) 0)
+module _ (ws : List ℕ) (at n : ℕ) (a : Directions) (pos pending : ℕ) (here : SeenHere ws at n a pos pending) where
+  pub seen-next : 0 < pending → SeenHere ws at n (withWord a (nodeOf ws pos .mark)) (pos + flatWords) (pending - 1 + nodeOf ws pos .count)
   unfolding SeenHere
   seen-next l f h =
-      left-down ws pos (λ g. merge a (marksOf g) ≡ marksOf f) (λ g. merge (withWord a (getD ws (pos + 2) 0)) (marksOf g) ≡ marksOf f) pending
+      remaining-down ws pos (λ g. merge a (directionsOf g) ≡ directionsOf f) (λ g. merge (withWord a (nodeOf ws pos .mark)) (directionsOf g) ≡ directionsOf f) pending
       (λ o m k s e r p. seen-down a _ o m k s e ∙ p) l (here f h)
 
-  pub seen-done : pending ≡ 0 → MarksIs ws at n a
+  pub seen-done : pending ≡ 0 → DirectionsAre ws at n a
   unfolding SeenHere
-  seen-done z f h = sym (seen-all a) ∙ left-none ws pos (λ g. merge a (marksOf g) ≡ marksOf f) pending z (here f h)
+  seen-done z f h = sym (seen-all a) ∙ remaining-none ws pos (λ g. merge a (directionsOf g) ≡ directionsOf f) pending z (here f h)
 
-  pub seen-room : HasRow ws at n → 0 < pending → pos + 4 ≤ length ws
+  pub seen-room : HasRow ws at n → 0 < pending → pos + flatWords ≤ length ws
   unfolding SeenHere
-  seen-room r l = left-room ws pos _ pending l (here (r .terms) (r .is))
+  seen-room r l = remaining-room ws pos _ pending l (here (r .terms) (r .is))
 
-  pub seen-few : HasRow ws at n → 4 * pending ≤ length ws
+  pub seen-few : HasRow ws at n → flatWords * pending ≤ length ws
   unfolding SeenHere
-  seen-few r = left-few ws pos _ pending (here (r .terms) (r .is))
+  seen-few r = remaining-few ws pos _ pending (here (r .terms) (r .is))
 
 -- any mark, from the marks of both directions
-pub marked-forward : (m : Marks) (f : Terms) → m ≡ marksOf f → m .forward ≡ true → true ≡ someMark isMark f
+pub marked-forward : (m : Directions) (f : Terms) → m ≡ directionsOf f → m .forward ≡ true → true ≡ someMark isMark f
 marked-forward m f e h =
     let p : someMark (goes Forward) f ≡ true = cc in
     sym (some-either f ∙ ap (λ (b : Bool). b || someMark (goes Backward) f) p)
 
-pub marked-backward : (m : Marks) (f : Terms) → m ≡ marksOf f → m .forward ≡ false → m .backward ≡ someMark isMark f
+pub marked-backward : (m : Directions) (f : Terms) → m ≡ directionsOf f → m .forward ≡ false → m .backward ≡ someMark isMark f
 marked-backward m f e h =
     let p : someMark (goes Forward) f ≡ false = cc in
-    ap (λ (x : Marks). x .backward) e ∙ sym (some-either f ∙ ap (λ (b : Bool). b || someMark (goes Backward) f) p)
+    ap (λ (x : Directions). x .backward) e ∙ sym (some-either f ∙ ap (λ (b : Bool). b || someMark (goes Backward) f) p)

@@ -1,25 +1,26 @@
 // Marks in flat terms: which directions stand in a row of terms (14, 15), and whether a mark stands inside a marked subterm (18).
 // Terms are walked flat, by a pending count: how many terms are still to be read.
+use model::FLAT_WORDS;
 ghost use mathlib.Core.Path.{_≡_};
 ghost use Rattle.terms.specs.Place.{Well};
-ghost use Rattle.marks.specs.Marks.{HasRow, withWord, MarksIs, MarkedIs, NestedIs};
+ghost use Rattle.marks.specs.Marks.{HasRow, withWord, DirectionsAre, MarkedIs, NestedIs};
 
-// Whether a row of terms holds a forward mark, and whether it holds a backward one.
-pub struct Marks {
+// Which directions the marks of a row of terms have.
+pub struct Directions {
     pub forward: bool,
     pub backward: bool,
 }
 
-// The marks seen so far, with one more mark word.
-fn with_mark(m: Marks, mark: u16) -> Marks
+// The directions seen so far, with one more mark word.
+fn with_mark(m: Directions, mark: u16) -> Directions
     ensures { λ r. ⌜ r ≡ withWord m mark ⌝ }
 {
     match mark {
-        1 => Marks {
+        1 => Directions {
             forward: true,
             backward: m.backward,
         },
-        2 => Marks {
+        2 => Directions {
             forward: m.forward,
             backward: true,
         },
@@ -27,12 +28,12 @@ fn with_mark(m: Marks, mark: u16) -> Marks
     }
 }
 
-// The marks of a row of `count` terms at `at`.
-pub fn marks_in(words: &[u16], at: usize, count: usize) -> Marks
+// The directions of the marks of a row of `count` terms at `at`.
+pub fn directions_in(words: &[u16], at: usize, count: usize) -> Directions
     requires { ⌜ HasRow (now words) at count ⌝ }
-    ensures { λ r. ⌜ MarksIs (now (words .entry)) at count r ⌝ }
+    ensures { λ r. ⌜ DirectionsAre (now (words .entry)) at count r ⌝ }
 {
-    let mut seen = Marks {
+    let mut seen = Directions {
         forward: false,
         backward: false,
     };
@@ -42,7 +43,7 @@ pub fn marks_in(words: &[u16], at: usize, count: usize) -> Marks
         let n = terms::node_at(words, pos);
         seen = with_mark(seen, n.mark);
         pending = pending - 1 + model::wide(n.count);
-        pos += 4;
+        pos += FLAT_WORDS;
     }
     seen
 }
@@ -52,7 +53,7 @@ pub fn marked(words: &[u16], at: usize, count: usize) -> bool
     requires { ⌜ HasRow (now words) at count ⌝ }
     ensures { λ r. ⌜ MarkedIs (now (words .entry)) at count r ⌝ }
 {
-    let m = marks_in(words, at, count);
+    let m = directions_in(words, at, count);
     if m.forward {
         return true;
     }
@@ -71,9 +72,9 @@ pub fn nested_in(words: &[u16], at: usize) -> bool
         let kids = model::wide(n.count);
         if n.mark == 0 {
             pending = pending - 1 + kids;
-            pos += 4;
+            pos += FLAT_WORDS;
         } else {
-            if marked(words, pos + 4, kids) {
+            if marked(words, pos + FLAT_WORDS, kids) {
                 return true;
             }
             pending -= 1;

@@ -15,12 +15,13 @@ use Rattle.model.specs.Pattern.{Substitution}
 use Rattle.terms.specs.Place.{TermAt, EndsAt, Decides}
 use Rattle.terms.proofs.Rows.{one-long}
 use Rattle.terms.proofs.Place.{term-length, term-same}
-use Rattle.matching.specs.Match.{spanOf, withSpan, IsBound, TermOf, Valid, Agrees, BindOk}
+use Rattle.matching.specs.declared.Fit.the-variants.{Fits}
+use Rattle.matching.specs.Match.{fitIf, spanOf, withSpan, IsBound, TermOf, Valid, Agrees, BindBy}
 
 module _ (ws : List ℕ) (b : Bindings) (x at e : ℕ) (l : x < variableLimit) (v : Valid ws b) (t : Term) (ht : TermAt ws at e t) where
   -- a variable that is bound
   pub bind-old : (r : Bool) (bd : IsBound b x) → Decides r (stripped (v .terms x l bd .term) ≡ stripped t)
-      → BindOk r ws x b (record { ok = r; at = e; more = 0; bound = b }) e t
+      → BindBy (fitIf r) ws x b (record { fit = fitIf r; at = e; more = 0; bound = b }) e t
   bind-old true bd d =
       let w = v .terms x l bd in
       record { ends = refl; leaf = refl; valid = v; same = λ σ. (λ ag. (ag, sym d ∙ ag x l bd (w .term) (w .is)), λ p. p .0) }
@@ -52,7 +53,7 @@ module _ (ws : List ℕ) (b : Bindings) (x at e : ℕ) (l : x < variableLimit) (
   x-agrees σ ag p y (no f) ly bd u hu = ag y ly (rw (off-x y f) at bd) u (rw (off-x y f) at hu)
 
   pub bind-new : (IsBound b x → ⊥)
-      → BindOk true ws x b (record { ok = true; at = e; more = 0; bound = withSpan b x (record { start = at; end = e }) }) e t
+      → BindBy Fits ws x b (record { fit = Fits; at = e; more = 0; bound = withSpan b x (record { start = at; end = e }) }) e t
   unfolding with-x
   bind-new no-x =
       record {

@@ -3,4 +3,5 @@ pub mod Binding
 pub mod Item
 pub mod Match
 pub mod Matching
-pub mod Fit
+pub mod BothSides
+pub mod Only

@@ -1,24 +1,23 @@
 -- Rows of patterns one behind the other, and the item slots that hold them.
 -- Assumes nothing.
-use Prim.Native.Nat.{ℕ, zero, suc, _+_, _≤_, _<_}
+use Prim.Native.Nat.{ℕ, suc, _+_, _≤_}
 use mathlib.Core.List.{List, _∷_, _++_, append-assoc}
-use mathlib.Core.Option.{Option, none, some, Option·none-ne-some}
-use mathlib.Core.Path.{_≡_, refl, ap}
+use mathlib.Core.Option.{Option, some}
+use mathlib.Core.Path.{_≡_, refl, ap, _∙_}
 use native.Mathlib.Nat.{zero-add, suc-add}
 use native.Mathlib.Omega.{arith}
-use lib.ListN.{length, getD}
-use Rattle.model.specs.Limits.{variableLimit}
+use borrow.Author.Tests.{lt-ltb, le-leb}
+use lib.ListN.{length}
+use Rattle.model.specs.Limits.{childLimit, variableLimit}
 use Rattle.model.specs.Term.{count, join}
 use Rattle.model.specs.Pattern.{Item, variable, operator, Patterns, noPatterns, var, app, countP, items, NarrowP, Substitution, inst}
-use Rattle.model.specs.Tables.{itemOf, itemFront, itemsFrom}
-use Rattle.matching.specs.Pattern.{PatternsAt}
+use Rattle.model.specs.Tables.{itemWords, itemFront, itemsFrom}
+use Rattle.rule_table.specs.declared.Slot.the-variants.{Variable, Operator}
+use Rattle.rule_table.specs.Slots.{itemAt, slotOf, PatternsAt}
+use Rattle.rule_table.proofs.Patterns.{joinP}
+use Rattle.rule_table.proofs.Sides.{first-item}
 
--- one row behind another
-unfoldable pub joinP : Patterns → Patterns → Patterns
-joinP noPatterns s = s
-joinP (var x r) s = var x (joinP r s)
-joinP (app o k r) s = app o k (joinP r s)
-
+-- rows of patterns one behind the other
 pub countP-join : (k s : Patterns) → countP (joinP k s) ≡ countP k + countP s
 unfolding joinP countP
 countP-join noPatterns s = rw zero-add
@@ -37,12 +36,6 @@ narrowP-join noPatterns s g h = h
 narrowP-join (var x r) s g h = (g .0, narrowP-join r s (g .1) h)
 narrowP-join (app o k r) s g h = (g .0, g .1, narrowP-join r s (g .2) h)
 
-pub narrowP-parts : (k s : Patterns) → NarrowP (joinP k s) → NarrowP k × NarrowP s
-unfolding joinP NarrowP
-narrowP-parts noPatterns s h = (tt, h)
-narrowP-parts (var x r) s h = let p = narrowP-parts r s (h .1) in ((h .0, p .0), p .1)
-narrowP-parts (app o k r) s h = let p = narrowP-parts r s (h .2) in ((h .0, h .1, p .0), p .1)
-
 pub inst-join : (σ : Substitution) (k s : Patterns) → inst σ (joinP k s) ≡ join (inst σ k) (inst σ s)
 unfolding joinP join inst
 inst-join σ noPatterns s = refl
@@ -55,48 +48,32 @@ count-inst σ noPatterns = refl
 count-inst σ (var x s) = ap suc (count-inst σ s)
 count-inst σ (app o k s) = ap suc (count-inst σ s)
 
--- the item that a slot holds
-abbrev pub itemAt : List ℕ → ℕ → Option Item
-itemAt ps item = itemOf (getD ps item 0) (getD ps (item + 1) 0) (getD ps (item + 2) 0)
-
 -- the first of the slots, and those behind it
-record First (i : Option Item) (r : Option (List Item)) (j : Item) (is : List Item) : Type 0 where
+record FirstSlot (i : Option Item) (r : Option (List Item)) (j : Item) (is : List Item) : Type 0 where
   here : i ≡ some j
   behind : r ≡ some is
 
-first : (i : Option Item) (r : Option (List Item)) (j : Item) (is : List Item) → itemFront i r ≡ some (j ∷ is) → First i r j is
-first none r j is e = absurd (Option·none-ne-some _ e)
-first (some i) none j is e = absurd (Option·none-ne-some _ e)
-first (some i) (some l) j is e = let p : i ≡ j = cc in let q : l ≡ is = cc in record { here = ap some p; behind = ap some q }
-
-slot-var : (k v n x : ℕ) → itemOf k v n ≡ some (variable x) → (k ≡ 0) × (v ≡ x)
-slot-var zero v n x e = (refl, cc)
-slot-var (suc zero) v n x e = let z : _≡_ {A = ℕ} 0 1 = cc in absurd (omega arith)
-slot-var (suc (suc k)) v n x e = absurd (Option·none-ne-some _ e)
-
-slot-op : (k v n o c : ℕ) → itemOf k v n ≡ some (operator o c) → (k ≡ 1) × (v ≡ o) × (n ≡ c)
-slot-op zero v n o c e = let z : _≡_ {A = ℕ} 0 1 = cc in absurd (omega arith)
-slot-op (suc zero) v n o c e = let p : v ≡ o = cc in let q : n ≡ c = cc in (refl, p, q)
-slot-op (suc (suc k)) v n o c e = absurd (Option·none-ne-some _ e)
+first : (i : Option Item) (r : Option (List Item)) (j : Item) (is : List Item) → itemFront i r ≡ some (j ∷ is) → FirstSlot i r j is
+first i r j is e =
+    let f = first-item i r (j ∷ is) e in
+    let joined = f .joined in
+    let p : f .item ≡ j = cc in
+    let q : f .rest ≡ is = cc in
+    record { here = f .first ∙ ap some p; behind = f .others ∙ ap some q }
 
 -- a row that begins with a variable
 pub record Var (ps : List ℕ) (item n x : ℕ) (s : Patterns) : Type 0 where
-  pub room : item + 3 ≤ length ps
-  pub kind : getD ps item 0 ≡ 0
-  pub number : getD ps (item + 1) 0 ≡ x
-  pub small : x < variableLimit
-  pub behind : PatternsAt ps (item + 3) n s
+  pub room : item + itemWords ≤ length ps
+  pub slot : slotOf (itemAt ps item) ≡ Variable x
+  pub behind : PatternsAt ps (item + itemWords) n s
 
 pub row-var : (ps : List ℕ) (item n x : ℕ) (s : Patterns) → PatternsAt ps item (suc n) (var x s) → Var ps item n x s
 unfolding items itemsFrom countP NarrowP
 row-var ps item n x s h =
-    let f = first (itemAt ps item) (itemsFrom ps (item + 3) (length (items s))) (variable x) (items s) (h .spelled) in
-    let w = slot-var (getD ps item 0) (getD ps (item + 1) 0) (getD ps (item + 2) 0) x (f .here) in
+    let f = first (itemAt ps item) (itemsFrom ps (item + itemWords) (length (items s))) (variable x) (items s) (h .spelled) in
     record {
       room = omega (arith, h .room);
-      kind = w .0;
-      number = w .1;
-      small = h .narrow .0;
+      slot = ap slotOf (f .here) ∙ rw (lt-ltb x variableLimit (h .narrow .0));
       behind = record {
         narrow = h .narrow .1;
         counted = omega (arith, h .counted);
@@ -107,23 +84,19 @@ row-var ps item n x s h =
 
 -- a row that begins with an operator: its children and the rest follow
 pub record App (ps : List ℕ) (item n o : ℕ) (k s : Patterns) : Type 0 where
-  pub room : item + 3 ≤ length ps
-  pub kind : getD ps item 0 ≡ 1
-  pub number : getD ps (item + 1) 0 ≡ o
-  pub kids : getD ps (item + 2) 0 ≡ countP k
-  pub below : PatternsAt ps (item + 3) (countP k + n) (joinP k s)
+  pub room : item + itemWords ≤ length ps
+  pub slot : slotOf (itemAt ps item) ≡ Operator (record { 0 = o }) (countP k)
+  pub below : PatternsAt ps (item + itemWords) (countP k + n) (joinP k s)
 
 pub row-app : (ps : List ℕ) (item n o : ℕ) (k s : Patterns) → PatternsAt ps item (suc n) (app o k s) → App ps item n o k s
 unfolding items itemsFrom countP NarrowP
 row-app ps item n o k s h =
-    let f = first (itemAt ps item) (itemsFrom ps (item + 3) (length (items k ++ items s))) (operator o (countP k)) (items k ++ items s) (h .spelled) in
-    let w = slot-op (getD ps item 0) (getD ps (item + 1) 0) (getD ps (item + 2) 0) o (countP k) (f .here) in
+    let is = items k ++ items s in
+    let f = first (itemAt ps item) (itemsFrom ps (item + itemWords) (length is)) (operator o (countP k)) is (h .spelled) in
     let c : countP s ≡ n = omega (arith, h .counted) in
     record {
       room = omega (arith, h .room);
-      kind = w .0;
-      number = w .1;
-      kids = w .2;
+      slot = ap slotOf (f .here) ∙ rw (le-leb (countP k) childLimit (h .narrow .0));
       below = record {
         narrow = narrowP-join k s (h .narrow .1) (h .narrow .2);
         counted = rw (countP-join, c);
@@ -133,15 +106,8 @@ row-app ps item n o k s h =
     }
 
 -- what the code asks for, from a row
-pub row-room : (ps : List ℕ) (item n : ℕ) (q : Patterns) → PatternsAt ps item (suc n) q → item + 3 ≤ length ps
+pub row-room : (ps : List ℕ) (item n : ℕ) (q : Patterns) → PatternsAt ps item (suc n) q → item + itemWords ≤ length ps
 unfolding countP
 row-room ps item n noPatterns h = absurd (omega (arith, h .counted))
 row-room ps item n (var x s) h = row-var ps item n x s h .room
 row-room ps item n (app o k s) h = row-app ps item n o k s h .room
-
-pub row-small : (ps : List ℕ) (item n : ℕ) (q : Patterns) → PatternsAt ps item (suc n) q → getD ps item 0 ≡ 0
-    → getD ps (item + 1) 0 < variableLimit
-unfolding countP
-row-small ps item n noPatterns h z = absurd (omega (arith, h .counted))
-row-small ps item n (var x s) h z = let v = row-var ps item n x s h in omega (arith, v .number, v .small)
-row-small ps item n (app o k s) h z = absurd (omega (arith, row-app ps item n o k s h .kind))

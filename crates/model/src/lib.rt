@@ -39,7 +39,7 @@ pub struct Span {
 
 // What each of the sixteen variables is bound to. A variable with an empty span is not bound.
 pub struct Bindings {
-    pub spans: [Span; 16],
+    pub spans: [Span; VARIABLE_LIMIT],
 }
 
 // What judging an entry of a table answers: it is taken, or the number of the refusal.
@@ -92,12 +92,19 @@ pub const WORD_LIMIT: usize = 1048576;
 // A proof's words: four a tree node.
 pub const FLAT_WORDS: usize = 4;
 
-// How many words an entry of each table has; specs/Tables.antt says which.
+// How many words an entry of each table has, and where a rule's two sides start in its entry, an item being three words;
+// specs/Tables.antt says which.
 pub const NODE_WORDS: usize = 10;
 
-pub const RULE_WORDS: usize = 387;
+pub const ITEM_WORDS: usize = 3;
 
-pub const SIDE_WORDS: usize = 192;
+pub const SIDE_WORDS: usize = ITEM_WORDS * ITEM_LIMIT;
+
+pub const LEFT_AT: usize = 3;
+
+pub const RIGHT_AT: usize = LEFT_AT + SIDE_WORDS;
+
+pub const RULE_WORDS: usize = RIGHT_AT + SIDE_WORDS;
 
 pub const CONNECTION_WORDS: usize = 5;
 

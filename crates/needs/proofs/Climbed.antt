@@ -22,7 +22,7 @@ use Rattle.paths.proofs.Above.{halves, walk-climb}
 use Rattle.forest.specs.Rows.{Climbs, ageIn, ageOf, costIn, depthIn, nextIn}
 use Rattle.forest.proofs.Ages.{age-new, age-old}
 use Rattle.costs.specs.Costs.{Above, weigh}
-use Rattle.costs.proofs.Climbs.{step, weigh-self}
+use Rattle.costs.proofs.Climbs.{rise, weigh-self}
 use Rattle.trees.specs.Sizes.{heldNodes, nodeCap}
 use Rattle.needs.specs.declared.Need.{Need}
 use Rattle.needs.specs.Needs.{Comes, pathNodes, pick, tally}
@@ -48,7 +48,7 @@ unfolding tally
 tally-self table cs n = walk-self 0 _+_ (λ older _ c u. getD table (length older) 0) cs n
 
 -- one step of a climb: what its connection's number adds
-pub record Rise (rows table : List ℕ) (cs : List Connection) (at to up : ℕ) : Type 0 where
+pub record Counted (rows table : List ℕ) (cs : List Connection) (at to up : ℕ) : Type 0 where
   pub aged : 0 < ageIn rows at
   pub few : ageIn rows at < nodeLimit
   pub nodes : tally table cs at to ≡ getD table (ageIn rows at - 1) 0 + tally table cs up to
@@ -58,10 +58,10 @@ module _ {cs : List Connection} {n : ℕ} {rows : List ℕ} (table : List ℕ) (
   abbrev f : Forest cs
   f = k .rooted .forest
 
-  rise-by : (i : ℕ) → i ≤ depth cs at → climbBy cs i at ≡ to → Rise rows table cs at to up
+  counted-by : (i : ℕ) → i ≤ depth cs at → climbBy cs i at ≡ to → Counted rows table cs at to up
   unfolding climbBy tally
-  rise-by zero d p = absurd (e p)
-  rise-by (suc i) d p =
+  counted-by zero d p = absurd (e p)
+  counted-by (suc i) d p =
       let t = depth-climb (suc i) cs at f d in
       let v : up ≡ nextOf cs at = u ∙ k .next at h in
       elim (place cs at f) [
@@ -78,8 +78,8 @@ module _ {cs : List Connection} {n : ℕ} {rows : List ℕ} (table : List ℕ) (
             }
       ]
 
-  pub rise : Above cs at to → Rise rows table cs at to up
-  rise a = rise-by (a .steps) (a .enough) (a .leads)
+  pub counted : Above cs at to → Counted rows table cs at to up
+  counted a = counted-by (a .steps) (a .enough) (a .leads)
 
 -- a climb on its way, with what it has cost and appended so far
 pub record Gone (rows table : List ℕ) (cs : List Connection) (n from to at d m : ℕ) : Type 0 where
@@ -90,16 +90,16 @@ pub record Gone (rows table : List ℕ) (cs : List Connection) (n from to at d m
 
 module _ {rows table : List ℕ} {cs : List Connection} {n from to at d m : ℕ} (k : Climbs cs n rows)
     (w : Gone rows table cs n from to at d m) where
-  pub gone-up : (up : ℕ) → (at ≡ to → ⊥) → up ≡ nextIn rows at → Rise rows table cs at to up
-  gone-up up e u = rise table k at to up (w .inside) e u (w .above)
+  pub gone-up : (up : ℕ) → (at ≡ to → ⊥) → up ≡ nextIn rows at → Counted rows table cs at to up
+  gone-up up e u = counted table k at to up (w .inside) e u (w .above)
 
   pub gone-falls : (up : ℕ) → (at ≡ to → ⊥) → up ≡ nextIn rows at → depthIn rows up < depthIn rows at
-  gone-falls up e u = step k at to up (w .inside) e u (w .above) .falls
+  gone-falls up e u = rise k at to up (w .inside) e u (w .above) .falls
 
   pub gone-more : (up : ℕ) {d′ m′ : ℕ} → (at ≡ to → ⊥) → up ≡ nextIn rows at → d′ ≡ heldNodes (d + costIn rows at) →
       m′ ≡ heldNodes (m + getD table (ageIn rows at - 1) 0) → Gone rows table cs n from to up d′ m′
   gone-more up e u p q =
-      let s = step k at to up (w .inside) e u (w .above) in
+      let s = rise k at to up (w .inside) e u (w .above) in
       let r = gone-up up e u in
       record {
         inside = s .inside;

@@ -4,5 +4,5 @@ pub mod Runs
 pub mod Exact
 pub mod Filling
 pub mod Words
-pub mod Counted
+pub mod Ready
 pub mod Only

@@ -1,14 +1,14 @@
 -- A climb from a node to one above it is the walk between the two, and the walk between joined nodes is two climbs to where they meet.
 use Prim.Native.Nat.{ℕ, zero, suc, _+_, _≤_}
-use mathlib.Core.Path.{_≡_, refl, sym, ap, ap₂, _∙_}
-use mathlib.Core.Bool.{Bool, true, false}
+use mathlib.Core.Path.{_≡_, sym, ap, ap₂, _∙_}
+use mathlib.Core.Bool.{Bool, true}
 use mathlib.Core.List.{List}
 use native.Mathlib.Omega.{arith}
 use Rattle.model.specs.declared.Connection.{Connection}
-use Rattle.model.specs.Forest.{nxt, root, walk, below, parentOf}
+use Rattle.model.specs.Forest.{nxt, root, walk}
 use Rattle.paths.specs.Hangs.{nextOf, depth, Forest}
 use Rattle.paths.specs.Meet.{topOf}
-use Rattle.paths.proofs.Laws.{climb-left, walk-self, root-below}
+use Rattle.paths.proofs.Laws.{climb-left, walk-self}
 use Rattle.paths.proofs.Places.{high, low, place}
 use Rattle.paths.proofs.Ways.{climbBy, root-climb, depth-climb, hop, hop-low, ups, downs, meets}
 use Rattle.paths.proofs.Climbed.{climbed}

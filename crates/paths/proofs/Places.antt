@@ -1,8 +1,7 @@
 -- Where a node stands: at the top of its class, or below a parent.
-use Prim.Native.Nat.{ℕ, suc, _<_}
+use Prim.Native.Nat.{ℕ, suc}
 use mathlib.Core.Path.{_≡_, refl, _∙_}
 use mathlib.Core.List.{List}
-use native.Mathlib.Omega.{arith}
 use Rattle.model.specs.declared.Connection.{Connection}
 use Rattle.model.specs.Forest.{nxt, root, Parent, top, below, parentOf}
 use Rattle.paths.specs.Hangs.{nextOf, depth, Forest}
@@ -30,10 +29,3 @@ next-below cs n p = rw p
 pub next-top : (cs : List Connection) (n : ℕ) → parentOf cs n ≡ top → nextOf cs n ≡ n
 unfolding nextOf
 next-top cs n p = rw p
-
-pub depth-next : (cs : List Connection) (n : ℕ) → Forest cs → 0 < depth cs n → depth cs n ≡ suc (depth cs (nextOf cs n))
-depth-next cs n f z = go (place cs n f)
-  where
-    go : Place cs n → depth cs n ≡ suc (depth cs (nextOf cs n))
-    go (high p q) = absurd (omega arith)
-    go (low c o p q s) = s

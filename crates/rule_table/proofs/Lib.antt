@@ -4,7 +4,8 @@ pub mod Sides
 pub mod Passes
 pub mod Parts
 pub mod Entries
+pub mod Table
 pub mod Judged
 pub mod Whole
-pub mod Table
 pub mod Frames
+pub mod Only

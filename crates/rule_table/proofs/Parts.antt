@@ -2,7 +2,7 @@
 -- Assumes nothing.
 use Prim.Native.Nat.{ℕ, zero, suc, _+_, _*_, _≤_, _<_}
 use mathlib.Core.List.{List}
-use mathlib.Core.Option.{Option, some}
+use mathlib.Core.Option.{Option}
 use mathlib.Core.Path.{_≡_, refl, _∙_}
 use native.Mathlib.Decide.{decLe}
 use native.Mathlib.Omega.{arith}
@@ -10,9 +10,10 @@ use borrow.Author.Tests.{le-leb, lt-leb}
 use lib.ListN.{length, getD, take, drop, length-take, length-drop}
 use lib.Seq.{getD-take, getD-drop}
 use Rattle.model.specs.Limits.{itemLimit}
-use Rattle.model.specs.Pattern.{Patterns, countP, items, NarrowP}
+use Rattle.model.specs.Pattern.{Patterns, items}
 use Rattle.model.specs.Rule.{Rule, ruleOf}
-use Rattle.model.specs.Tables.{itemsFrom, sideAt, ruleWords, ruleEntry}
+use Rattle.model.specs.Tables.{itemsFrom, sideAt, ruleWords, ruleEntry, itemWords, leftAt, rightAt, sideWords}
+use Rattle.rule_table.specs.Slots.{PatternsAt}
 use Rattle.rule_table.specs.Entries.{entryOf}
 use Rattle.rule_table.proofs.Sides.{SideIs, items-length}
 
@@ -22,13 +23,13 @@ Alike ws a ws′ b m = (k : ℕ) → k < m → getD ws (a + k) 0 ≡ getD ws′ 
 
 -- the rule that the words of an entry say, from a place on
 abbrev pub ruleFrom : List ℕ → ℕ → Option Rule
-ruleFrom ws at = ruleOf (getD ws at 0) (sideAt ws (at + 3) (getD ws (at + 1) 0)) (sideAt ws (at + 195) (getD ws (at + 2) 0))
+ruleFrom ws at = ruleOf (getD ws at 0) (sideAt ws (at + leftAt) (getD ws (at + 1) 0)) (sideAt ws (at + rightAt) (getD ws (at + 2) 0))
 
 module _ (ws ws′ : List ℕ) (a b m : ℕ) (same : Alike ws a ws′ b m) where
   word : (k i j : ℕ) → k < m → i ≡ a + k → j ≡ b + k → getD ws i 0 ≡ getD ws′ j 0
   word k i j h e f = rw (e, f) (same k h)
 
-  pub items-alike : (n k i j : ℕ) → k + n * 3 ≤ m → i ≡ a + k → j ≡ b + k → itemsFrom ws i n ≡ itemsFrom ws′ j n
+  pub items-alike : (n k i j : ℕ) → k + n * itemWords ≤ m → i ≡ a + k → j ≡ b + k → itemsFrom ws i n ≡ itemsFrom ws′ j n
   unfolding itemsFrom
   items-alike zero k i j h e f = refl
   items-alike (suc n) k i j h e f =
@@ -36,10 +37,10 @@ module _ (ws ws′ : List ℕ) (a b m : ℕ) (same : Alike ws a ws′ b m) where
         word k i j (omega arith) e f,
         word (k + 1) (i + 1) (j + 1) (omega arith) (omega arith) (omega arith),
         word (k + 2) (i + 2) (j + 2) (omega arith) (omega arith) (omega arith),
-        items-alike n (k + 3) (i + 3) (j + 3) (omega arith) (omega arith) (omega arith),
+        items-alike n (k + itemWords) (i + itemWords) (j + itemWords) (omega arith) (omega arith) (omega arith),
       )
 
-  side-alike : (k i j n : ℕ) → k + itemLimit * 3 ≤ m → i ≡ a + k → j ≡ b + k → sideAt ws i n ≡ sideAt ws′ j n
+  side-alike : (k i j n : ℕ) → k + sideWords ≤ m → i ≡ a + k → j ≡ b + k → sideAt ws i n ≡ sideAt ws′ j n
   unfolding sideAt
   side-alike k i j n h e f =
       elim (decLe n itemLimit) [
@@ -53,8 +54,8 @@ module _ (ws ws′ : List ℕ) (a b m : ℕ) (same : Alike ws a ws′ b m) where
         word 0 a b (omega arith) (omega arith) (omega arith),
         word 1 (a + 1) (b + 1) (omega arith) refl refl,
         word 2 (a + 2) (b + 2) (omega arith) refl refl,
-        side-alike 3 (a + 3) (b + 3) (getD ws′ (b + 1) 0) (omega arith) refl refl,
-        side-alike 195 (a + 195) (b + 195) (getD ws′ (b + 2) 0) (omega arith) refl refl,
+        side-alike leftAt (a + leftAt) (b + leftAt) (getD ws′ (b + 1) 0) (omega arith) refl refl,
+        side-alike rightAt (a + rightAt) (b + rightAt) (getD ws′ (b + 2) 0) (omega arith) refl refl,
       )
 
 -- a part is alike
@@ -72,21 +73,9 @@ pub entry-alone : (es : List ℕ) → length es ≡ ruleWords → entryOf es ≡
 unfolding entryOf ruleEntry
 entry-alone es h = rw h
 
--- the slots from `at` on begin with the items of the one pattern q: what matching a side asks of its slots
-pub record Spells (ps : List ℕ) (at : ℕ) (q : Patterns) : Type 0 where
-  pub narrow : NarrowP q
-  pub counted : countP q ≡ 1
-  pub room : at + 3 * length (items q) ≤ length ps
-  pub spelled : itemsFrom ps at (length (items q)) ≡ some (items q)
-
--- a side spells its pattern, where it stands and in a part of the table that holds its slots
-pub side-spells : (ws : List ℕ) (at n : ℕ) (q : Patterns) → SideIs ws at n q → at + n * 3 ≤ length ws → Spells ws at q
-side-spells ws at n q s h =
-    let l = items-length ws n at (items q) (s .spelled) in
-    record { narrow = s .narrow; counted = s .counted; room = omega arith; spelled = rw l (s .spelled) }
-
-pub part-spells : (ws : List ℕ) (at n : ℕ) (q : Patterns) → SideIs ws at n q → (m : ℕ) → at + m ≤ length ws → n * 3 ≤ m
-    → Spells (take m (drop at ws)) 0 q
+-- a side spells its pattern in a part of the table that holds its slots
+pub part-spells : (ws : List ℕ) (at n : ℕ) (q : Patterns) → SideIs ws at n q → (m : ℕ) → at + m ≤ length ws → n * itemWords ≤ m
+    → PatternsAt (take m (drop at ws)) 0 1 q
 part-spells ws at n q s m r h =
     let l = items-length ws n at (items q) (s .spelled) in
     let d : length (take m (drop at ws)) ≡ m = simp (length-take, length-drop) (omega arith) in

@@ -108,13 +108,13 @@ scan-read (i ∷ is) zero = none-over i (readP is)
 scan-read (i ∷ is) (suc n) = rw (scan-read is (arity i + n)) (row-over i (readP is) n)
 
 -- what a cut leaves: the first c patterns and those behind them
-pub record CutIs (c : ℕ) (q : Patterns) (p : CutP) : Type 0 where
+pub record CutPIs (c : ℕ) (q : Patterns) (p : CutP) : Type 0 where
   pub counted : countP (p .front) ≡ c
   pub narrow : NarrowP q → NarrowP (p .front) × NarrowP (p .back)
   pub spelled : items q ≡ items (p .front) ++ items (p .back)
 
 cut-var : (x : ℕ) (s : Patterns) (c : ℕ) (p : CutP) (r : Option CutP)
-    → ((w : CutP) → r ≡ some w → CutIs c s w) → longerVar x r ≡ some p → CutIs (suc c) (var x s) p
+    → ((w : CutP) → r ≡ some w → CutPIs c s w) → longerVar x r ≡ some p → CutPIs (suc c) (var x s) p
 unfolding countP items NarrowP
 cut-var x s c p none h e = absurd (none-some e)
 cut-var x s c p (some w) h e =
@@ -127,7 +127,7 @@ cut-var x s c p (some w) h e =
     })
 
 cut-app : (o : ℕ) (k s : Patterns) (c : ℕ) (p : CutP) (r : Option CutP)
-    → ((w : CutP) → r ≡ some w → CutIs c s w) → longerApp o k r ≡ some p → CutIs (suc c) (app o k s) p
+    → ((w : CutP) → r ≡ some w → CutPIs c s w) → longerApp o k r ≡ some p → CutPIs (suc c) (app o k s) p
 unfolding countP items NarrowP
 cut-app o k s c p none h e = absurd (none-some e)
 cut-app o k s c p (some w) h e =
@@ -139,7 +139,7 @@ cut-app o k s c p (some w) h e =
       spelled = rw (i .spelled, append-assoc);
     })
 
-pub cut-is : (c : ℕ) (q : Patterns) (p : CutP) → cutP c q ≡ some p → CutIs c q p
+pub cut-is : (c : ℕ) (q : Patterns) (p : CutP) → cutP c q ≡ some p → CutPIs c q p
 unfolding cutP countP items NarrowP
 cut-is zero q p e =
     let l : record { front = noPatterns; back = q } ≡ p = cc in

@@ -10,10 +10,11 @@ use native.Mathlib.Omega.{arith}
 use borrow.Author.Tests.{eq-eqb, ne-eqb, eqb-true, le-leb, lt-leb, leb-true, ltb-false, ltb-true}
 use lib.Dec.{leb, ltb, eqb}
 use lib.ListN.{length, getD}
+use Rattle.model.specs.declared.OpNo.{OpNo}
 use Rattle.model.specs.Limits.{childLimit, itemLimit, variableLimit}
 use Rattle.model.specs.Pattern.{Item, variable, operator, Patterns, countP, items, NarrowP, readP, stands, bound}
 use Rattle.model.specs.Rule.{sideIf, onePattern, side}
-use Rattle.model.specs.Tables.{itemFront, itemsFrom, sideBy, sideAt}
+use Rattle.model.specs.Tables.{itemFront, itemsFrom, sideBy, sideAt, itemWords, sideWords}
 use Rattle.rule_table.specs.declared.Slot.{Slot}
 use Rattle.rule_table.specs.declared.Slot.the-variants.{Variable, Operator, Outside}
 use Rattle.rule_table.specs.Slots.{isSide, itemAt, slotIf, slotOf, holds, holdsFrom, Standing, known, knownFrom}
@@ -28,25 +29,25 @@ pub record SideIs (ws : List ℕ) (at n : ℕ) (q : Patterns) : Type 0 where
   pub spelled : itemsFrom ws at n ≡ some (items q)
 
 -- what an item in front of others says
-record Front (i : Option Item) (r : Option (List Item)) (is : List Item) : Type 0 where
-  item : Item
-  rest : List Item
-  first : i ≡ some item
-  others : r ≡ some rest
-  joined : item ∷ rest ≡ is
+pub record FirstItem (i : Option Item) (r : Option (List Item)) (is : List Item) : Type 0 where
+  pub item : Item
+  pub rest : List Item
+  pub first : i ≡ some item
+  pub others : r ≡ some rest
+  pub joined : item ∷ rest ≡ is
 
-front : (i : Option Item) (r : Option (List Item)) (is : List Item) → itemFront i r ≡ some is → Front i r is
-front none r is e = absurd (none-some e)
-front (some i) none is e = absurd (none-some e)
-front (some i) (some js) is e = record { item = i; rest = js; first = refl; others = refl; joined = cc }
+pub first-item : (i : Option Item) (r : Option (List Item)) (is : List Item) → itemFront i r ≡ some is → FirstItem i r is
+first-item none r is e = absurd (none-some e)
+first-item (some i) none is e = absurd (none-some e)
+first-item (some i) (some js) is e = record { item = i; rest = js; first = refl; others = refl; joined = cc }
 
 -- n slots say n items
 pub items-length : (ws : List ℕ) (n at : ℕ) (is : List Item) → itemsFrom ws at n ≡ some is → length is ≡ n
 unfolding itemsFrom
 items-length ws zero at is e = let p : [] ≡ is = cc in ap length (sym p)
 items-length ws (suc n) at is e =
-    let f = front (itemAt ws at) (itemsFrom ws (at + 3) n) is e in
-    ap length (sym (f .joined)) ∙ ap suc (items-length ws n (at + 3) (f .rest) (f .others))
+    let f = first-item (itemAt ws at) (itemsFrom ws (at + itemWords) n) is e in
+    ap length (sym (f .joined)) ∙ ap suc (items-length ws n (at + itemWords) (f .rest) (f .others))
 
 eqb-turn : (m n : ℕ) → eqb m n ≡ eqb n m
 eqb-turn m n =
@@ -118,24 +119,24 @@ slot-holds : (x y : ℕ) → x < variableLimit → (b : Bool) → ltb y variable
 slot-holds x y h true e = refl
 slot-holds x y h false e = sym (ne-eqb x y (λ p. omega (arith, ltb-false y variableLimit e)))
 
-no-variable : (x c : ℕ) (b : Bool) → holds x (slotIf b (Operator c)) ≡ false
-no-variable x c true = refl
-no-variable x c false = refl
+no-variable : (x : ℕ) (o : OpNo) (c : ℕ) (b : Bool) → holds x (slotIf b (Operator o c)) ≡ false
+no-variable x o c true = refl
+no-variable x o c false = refl
 
 item-holds : (x : ℕ) (i : Item) (is : List Item) → x < variableLimit
     → holds x (slotOf (some i)) || among x is ≡ among x (i ∷ is)
 unfolding among
 item-holds x (variable y) is h = rw (slot-holds x y h (ltb y variableLimit) refl)
-item-holds x (operator o c) is h = rw (no-variable x c (leb c childLimit))
+item-holds x (operator o c) is h = rw (no-variable x (record { 0 = o }) c (leb c childLimit))
 
 holds-among : (ws : List ℕ) (x : ℕ) → x < variableLimit → (n at : ℕ) (is : List Item) → itemsFrom ws at n ≡ some is
     → holdsFrom ws at n x ≡ among x is
 unfolding itemsFrom holdsFrom among
 holds-among ws x h zero at is e = let p : [] ≡ is = cc in ap (among x) p
 holds-among ws x h (suc n) at is e =
-    let f = front (itemAt ws at) (itemsFrom ws (at + 3) n) is e in
-    ap (λ (i : Option Item). holds x (slotOf i) || holdsFrom ws (at + 3) n x) (f .first)
-    ∙ ap (λ (b : Bool). holds x (slotOf (some (f .item))) || b) (holds-among ws x h n (at + 3) (f .rest) (f .others))
+    let f = first-item (itemAt ws at) (itemsFrom ws (at + itemWords) n) is e in
+    ap (λ (i : Option Item). holds x (slotOf i) || holdsFrom ws (at + itemWords) n x) (f .first)
+    ∙ ap (λ (b : Bool). holds x (slotOf (some (f .item))) || b) (holds-among ws x h n (at + itemWords) (f .rest) (f .others))
     ∙ item-holds x (f .item) (f .rest) h
     ∙ ap (among x) (f .joined)
 
@@ -155,10 +156,10 @@ module _ (on : List Bool) (f : ℕ → Bool) (same : (x : ℕ) → x < variableL
   unfolding itemsFrom knownFrom all Fields
   known-all ws zero at is g e = let p : [] ≡ is = cc in ap (all f) p
   known-all ws (suc n) at is g e =
-      let w = front (itemAt ws at) (itemsFrom ws (at + 3) n) is e in
+      let w = first-item (itemAt ws at) (itemsFrom ws (at + itemWords) n) is e in
       let k : Fields (w .item ∷ w .rest) = subst Fields (sym (w .joined)) g in
-      ap (λ (i : Option Item). known on (slotOf i) && knownFrom on ws (at + 3) n) (w .first)
-      ∙ ap (λ (b : Bool). known on (slotOf (some (w .item))) && b) (known-all ws n (at + 3) (w .rest) (k .1) (w .others))
+      ap (λ (i : Option Item). known on (slotOf i) && knownFrom on ws (at + itemWords) n) (w .first)
+      ∙ ap (λ (b : Bool). known on (slotOf (some (w .item))) && b) (known-all ws n (at + itemWords) (w .rest) (k .1) (w .others))
       ∙ item-known (w .item) (w .rest) (k .0)
       ∙ ap (all f) (w .joined)
 
@@ -173,11 +174,11 @@ known-bound ws a n b m l r on s t h =
 -- where the walk over a side's slots is: it goes on as the whole goes
 pub record Walk (ws : List ℕ) (at n pos left pending : ℕ) : Type 0 where
   pub few : n ≤ itemLimit
-  pub room : pos + left * 3 ≤ length ws
+  pub room : pos + left * itemWords ≤ length ws
   pub slow : pending + left * childLimit ≤ 1 + n * childLimit
   pub goes : scanned (itemsFrom ws pos left) pending ≡ isSide (sideAt ws at n)
 
-pub walk-start : (ws : List ℕ) (at n : ℕ) → n ≤ itemLimit → at + itemLimit * 3 ≤ length ws → Walk ws at n at n 1
+pub walk-start : (ws : List ℕ) (at n : ℕ) → n ≤ itemLimit → at + sideWords ≤ length ws → Walk ws at n at n 1
 walk-start ws at n h r = record { few = h; room = omega arith; slow = omega arith; goes = scan-side ws at n h }
 
 module _ (ws : List ℕ) (at n pos left pending : ℕ) (w : Walk ws at n pos left pending) where
@@ -189,20 +190,20 @@ module _ (ws : List ℕ) (at n pos left pending : ℕ) (w : Walk ws at n pos lef
 
   -- one slot, by what it holds
   turn : (s : Slot) → slotOf (itemAt ws pos) ≡ s → 0 < left → 0 < pending
-      → behind s (itemsFrom ws (pos + 3) (left - 1)) (pending - 1) ≡ isSide (sideAt ws at n)
+      → behind s (itemsFrom ws (pos + itemWords) (left - 1)) (pending - 1) ≡ isSide (sideAt ws at n)
   turn s e h k =
-      ap (λ (x : Slot). behind x (itemsFrom ws (pos + 3) (left - 1)) (pending - 1)) (sym e) ∙ sym (scan-turn ws pos left pending h k)
+      ap (λ (x : Slot). behind x (itemsFrom ws (pos + itemWords) (left - 1)) (pending - 1)) (sym e) ∙ sym (scan-turn ws pos left pending h k)
       ∙ w .goes
 
   pub walk-variable : (x : ℕ) → slotOf (itemAt ws pos) ≡ Variable x → 0 < left → 0 < pending
-      → Walk ws at n (pos + 3) (left - 1) (pending - 1)
+      → Walk ws at n (pos + itemWords) (left - 1) (pending - 1)
   walk-variable x e h k = record { few = w .few; room = omega arith; slow = omega arith; goes = turn (Variable x) e h k }
 
-  pub walk-operator : (c : ℕ) → slotOf (itemAt ws pos) ≡ Operator c → 0 < left → 0 < pending
-      → Walk ws at n (pos + 3) (left - 1) (pending - 1 + c)
-  walk-operator c e h k =
-      let f = operator-small (itemAt ws pos) c e in
-      record { few = w .few; room = omega arith; slow = omega arith; goes = turn (Operator c) e h k }
+  pub walk-operator : (o : OpNo) (c : ℕ) → slotOf (itemAt ws pos) ≡ Operator o c → 0 < left → 0 < pending
+      → Walk ws at n (pos + itemWords) (left - 1) (pending - 1 + c)
+  walk-operator o c e h k =
+      let f = operator-small (itemAt ws pos) o c e in
+      record { few = w .few; room = omega arith; slow = omega arith; goes = turn (Operator o c) e h k }
 
   pub walk-outside : slotOf (itemAt ws pos) ≡ Outside → 0 < left → 0 < pending → false ≡ isSide (sideAt ws at n)
   walk-outside e h k = turn Outside e h k

@@ -1,21 +1,21 @@
 -- A whole table judged entry by entry: each entry is judged as the part of the table that it is, and the first bad one decides.
 -- Assumes nothing.
-use Prim.Native.Nat.{ℕ, zero, suc, _+_, _*_, _-_, _/_, _≤_, _<_, min}
-use mathlib.Core.List.{List}
-use mathlib.Core.Path.{_≡_, refl, ap, sym, _∙_}
+use Prim.Native.Nat.{ℕ, suc, _+_, _*_, _-_, _≤_, _<_, min}
+use mathlib.Core.List.{List, []}
+use mathlib.Core.Path.{_≡_, refl, sym, _∙_}
 use native.Mathlib.Decide.{decLe}
-use native.Mathlib.Nat.{zero-add, suc-add}
-use native.Mathlib.Numerals.{add-one}
 use native.Mathlib.Omega.{arith}
 use borrow.Author.Tests.{lt-leb}
 use lib.ListN.{length, take, drop, length-take, length-drop}
 use Rattle.model.specs.declared.Judgement.{Judgement}
 use Rattle.model.specs.declared.Judgement.the-variants.{Taken, Faulty}
-use Rattle.model.specs.Judged.{Judged, good, bad, judgementOf}
-use Rattle.model.specs.Rule.{Rule}
-use Rattle.model.specs.Tables.{ruleWords, ruleEntry, entries, ruleTable}
-use Rattle.rule_table.specs.Entries.{rulesIn, Accepted, entryOf}
-use Rattle.rule_table.proofs.Entries.{accepted-none, rules-room}
+use Rattle.model.specs.Judged.{good, bad, judgementOf}
+use Rattle.model.specs.Rule.{Rule, addRule}
+use Rattle.model.specs.Tables.{ruleWords, ruleEntry, entries, ruleTable, entriesIn}
+use Rattle.laws.proofs.Judging.{taken-good, faulty-bad, first-bad}
+use Rattle.rule_table.specs.Entries.{rulesIn, AcceptedRules, entryOf}
+use Rattle.rule_table.proofs.Entries.{rules-room}
+use Rattle.rule_table.proofs.Table.{rules-cut}
 use Rattle.rule_table.proofs.Judged.{other-length, Answers}
 use Rattle.rule_table.proofs.Parts.{rule-alike, part-alike, entry-whole, entry-alone}
 
@@ -45,54 +45,55 @@ module _ (ws : List ℕ) (i : ℕ) where
         | no l ↦ rw p (short (omega arith) e (omega arith))
       ]
 
--- a bad entry decides, whatever stands behind it
-bad-stays : (ws : List ℕ) (m n k : ℕ) → rulesIn ws n ≡ bad m → rulesIn ws (k + n) ≡ bad m
+-- where judging a table is: the entries before a place are accepted
+pub record Judging (ws : List ℕ) (pos : ℕ) : Type 0 where
+  pub count : ℕ
+  pub rules : List Rule
+  pub are : rulesIn ws count ≡ good rules
+  pub place : pos ≡ count * ruleWords
+
+pub judging-start : (ws : List ℕ) → Judging ws 0
 unfolding entries
-bad-stays ws m n zero e = rw zero-add e
-bad-stays ws m n (suc k) e = rw (suc-add, bad-stays ws m n k e)
+judging-start ws = record { count = 0; rules = []; are = refl; place = refl }
 
--- what an answer says
-was-taken : (j : Judged (List Rule)) → Taken ≡ judgementOf j → (rs : List Rule) × (j ≡ good rs)
-was-taken (good rs) e = (rs, refl)
-was-taken (bad m) e = let z : _≡_ {A = ℕ} 0 1 = cc in absurd (omega arith)
+module _ (ws : List ℕ) (pos : ℕ) (g : Judging ws pos) where
+  -- the part of the table before the place is a table of these
+  pub judging-room : pos ≤ length ws
+  judging-room = omega (arith, g .place, rules-room ws (g .count) (g .rules) (g .are))
 
-was-faulty : (j : Judged (List Rule)) (m : ℕ) → Faulty m ≡ judgementOf j → j ≡ bad m
-was-faulty (good rs) m e = let z : _≡_ {A = ℕ} 0 1 = cc in absurd (omega arith)
-was-faulty (bad k) m e = let q : k ≡ m = cc in ap bad q
+  before : ruleTable (take pos ws) ≡ rulesIn ws (g .count)
+  before = rw (g .place) (rules-cut ws (g .count) (rules-room ws (g .count) (g .rules) (g .are)))
 
--- where judging a table is: n entries are accepted
-pub record Judging (ws : List ℕ) (n pos : ℕ) : Type 0 where
-  pub accepted : Accepted ws n
-  pub place : pos ≡ n * ruleWords
+  pub judging-accepted : AcceptedRules (take pos ws)
+  judging-accepted = record { rules = g .rules; are = before ∙ g .are }
 
-pub judging-start : (ws : List ℕ) → Judging ws 0 0
-judging-start ws = record { accepted = accepted-none ws; place = refl }
-
-module _ (ws : List ℕ) (n pos : ℕ) (g : Judging ws n pos) where
   -- at the end of the table
   pub judging-done : length ws ≤ pos → Taken ≡ judgementOf (ruleTable ws)
   unfolding ruleTable
   judging-done h =
-      let r = rules-room ws n (g .accepted .rules) (g .accepted .are) in
-      let l : length ws ≡ n * ruleWords = omega (arith, g .place) in
-      let c : (length ws + 386) / 387 ≡ n = omega arith in
-      rw (c, g .accepted .are)
+      let c : entriesIn ruleWords (length ws) ≡ g .count = omega (arith, g .place, judging-room) in
+      rw (c, g .are)
 
   -- one more entry
-  module _ (part : List ℕ) (is : entryOf part ≡ ruleEntry ws n) (h : pos < length ws) where
-    next : (r : Judgement) → Answers ws n part r → r ≡ judgementOf (rulesIn ws (suc n))
+  module _ (e : ℕ) (ends : e ≡ min (pos + ruleWords) (length ws)) (h : pos < length ws) where
+    abbrev part : List ℕ
+    part = take (e - pos) (drop pos ws)
+
+    next : (r : Judgement) → Answers (take pos ws) part r → r ≡ judgementOf (rulesIn ws (suc (g .count)))
     unfolding entries
-    next r a = rw (← is) a
+    next r a =
+        let p = entry-part ws (g .count) pos e (g .place) ends in
+        a ∙ rw (before, g .are, p)
 
-    pub judging-next : (e : ℕ) → e ≡ min (pos + ruleWords) (length ws) → Answers ws n part Taken → Judging ws (n + 1) e
-    judging-next e q a =
-        let (rs, t) = was-taken (rulesIn ws (suc n)) (next Taken a) in
-        let r = rules-room ws (suc n) rs t in
-        record { accepted = record { rules = rs; are = rw add-one t }; place = omega (arith, g .place) }
+    pub judging-next : Answers (take pos ws) part Taken → Judging ws e
+    judging-next a =
+        let t = taken-good (rulesIn ws (suc (g .count))) (next Taken a) in
+        let r = rules-room ws (suc (g .count)) (t .what) (t .is) in
+        record { count = suc (g .count); rules = t .what; are = t .is; place = omega (arith, g .place) }
 
-    pub judging-faulty : (m : ℕ) → Answers ws n part (Faulty m) → Faulty m ≡ judgementOf (ruleTable ws)
+    pub judging-faulty : (m : ℕ) → Answers (take pos ws) part (Faulty m) → Faulty m ≡ judgementOf (ruleTable ws)
     unfolding ruleTable
     judging-faulty m a =
-        let b = was-faulty (rulesIn ws (suc n)) m (next (Faulty m) a) in
-        let c : (length ws + 386) / 387 ≡ (length ws + 386) / 387 - suc n + suc n = omega (arith, g .place) in
-        rw (c, bad-stays ws m (suc n) ((length ws + 386) / 387 - suc n) b)
+        let b = faulty-bad (rulesIn ws (suc (g .count))) m (next (Faulty m) a) in
+        let more : suc (g .count) ≤ entriesIn ruleWords (length ws) = omega (arith, g .place) in
+        rw (first-bad addRule (ruleEntry ws) [] (suc (g .count)) (entriesIn ruleWords (length ws)) m more b)

@@ -1,29 +1,26 @@
-// The rule table. An entry is 387 words: its number, how many items its left and its right side have, and 64 slots of three
-// words (kind, variable or operator, count) for each side. Entries are judged one by one, and looked up by their numbers.
+// The rule table. An entry is its number, how many items its left and its right side have, and 64 slots of three words (kind,
+// variable or operator, count) for each side. Entries are judged one by one, looked up by their numbers, and hand out their sides.
+// A table's length says how many entries it has.
 use model::CHILD_LIMIT;
 use model::ITEM_LIMIT;
+use model::ITEM_WORDS;
 use model::Judgement;
+use model::LEFT_AT;
+use model::OpNo;
+use model::RIGHT_AT;
 use model::RULE_LIMIT;
 use model::RULE_WORDS;
 use model::RuleNo;
 use model::SIDE_WORDS;
 use model::VARIABLE_LIMIT;
+use model::wide;
 ghost use mathlib.Core.Path.{_≡_};
 ghost use Prim.Native.Nat.{_+_, _*_, _≤_, min};
 ghost use lib.ListN.{length};
-ghost use Rattle.model.specs.Limits.{itemLimit};
 ghost use Rattle.model.specs.Judged.{judgementOf};
-ghost use Rattle.model.specs.Tables.{ruleWords, sideAt, ruleTable};
+ghost use Rattle.model.specs.Tables.{itemWords, sideWords, ruleWords, sideAt, ruleTable};
 ghost use Rattle.rule_table.specs.Slots.{isSide, itemAt, slotOf, Standing, knownFrom};
-ghost use Rattle.rule_table.specs.Entries.{Accepted, entryOf, withEntry, whereListed};
-
-// A child count is a word in a node, and a count of patterns here.
-const CHILDREN: usize = CHILD_LIMIT as usize;
-
-// Where the slots of an entry's left and of its right side start.
-pub const LEFT: usize = 3;
-
-const RIGHT: usize = LEFT + SIDE_WORDS;
+ghost use Rattle.rule_table.specs.Entries.{AcceptedRules, HasRule, entryOf, withEntry, whereListed, leftSlots, rightSlots};
 
 // Where a rule number is listed.
 pub enum Listed {
@@ -31,19 +28,18 @@ pub enum Listed {
     Nowhere,
 }
 
-// What an item slot holds: a variable, an operator with so many children, or a field outside its set.
-enum Slot {
+// What an item slot holds: a variable, an operator with its child count, or a field outside its set.
+pub enum Slot {
     Variable(usize),
-    Operator(usize),
+    Operator(OpNo, u16),
     Outside,
 }
 
 // Which entry lists a number: one pass over the numbers, the newest first.
-pub fn find_rule(rules: &[u16], count: usize, number: RuleNo) -> Listed
-    requires { ⌜ count * ruleWords ≤ length (now rules) ⌝ }
-    ensures { λ r. ⌜ r ≡ whereListed (now (rules .entry)) count (number .0) ⌝ }
+pub fn find_rule(rules: &[u16], number: RuleNo) -> Listed
+    ensures { λ r. ⌜ r ≡ whereListed (now (rules .entry)) (number .0) ⌝ }
 {
-    let mut i = count;
+    let mut i = rules.len() / RULE_WORDS;
     while 0 < i {
         i -= 1;
         if number.0 == rules[i * RULE_WORDS] {
@@ -53,25 +49,46 @@ pub fn find_rule(rules: &[u16], count: usize, number: RuleNo) -> Listed
     Listed::Nowhere
 }
 
-// What the slot at `at` holds, by its kind.
-fn item_at(words: &[u16], at: usize) -> Slot
-    requires { ⌜ at + 3 ≤ length (now words) ⌝ }
-    ensures { λ r. ⌜ r ≡ slotOf (itemAt (now (words .entry)) at) ⌝ }
+// The slots of the left side of entry `i`.
+pub fn left_side(rules: &[u16], i: usize) -> &[u16]
+    requires { ⌜ HasRule (now rules) i ⌝ }
+    ensures { λ r. ⌜ now r ≡ leftSlots (now (rules .entry)) i ⌝ }
 {
-    let kind = words[at];
-    let number = words[at + 1] as usize;
-    let count = words[at + 2] as usize;
+    let at = i * RULE_WORDS + LEFT_AT;
+    let end = at + SIDE_WORDS;
+    &rules[at..end]
+}
+
+// And those of its right side.
+pub fn right_side(rules: &[u16], i: usize) -> &[u16]
+    requires { ⌜ HasRule (now rules) i ⌝ }
+    ensures { λ r. ⌜ now r ≡ rightSlots (now (rules .entry)) i ⌝ }
+{
+    let at = i * RULE_WORDS + RIGHT_AT;
+    let end = at + SIDE_WORDS;
+    &rules[at..end]
+}
+
+// The one place where an item's three words are read: what the slot at `at` holds, by its kind.
+pub fn slot_at(slots: &[u16], at: usize) -> Slot
+    requires { ⌜ at + itemWords ≤ length (now slots) ⌝ }
+    ensures { λ r. ⌜ r ≡ slotOf (itemAt (now (slots .entry)) at) ⌝ }
+{
+    let kind = slots[at];
+    let number = slots[at + 1];
+    let count = slots[at + 2];
     match kind {
         0 => {
-            if number < VARIABLE_LIMIT {
-                Slot::Variable(number)
+            let x = wide(number);
+            if x < VARIABLE_LIMIT {
+                Slot::Variable(x)
             } else {
                 Slot::Outside
             }
         }
         1 => {
-            if count <= CHILDREN {
-                Slot::Operator(count)
+            if count <= CHILD_LIMIT {
+                Slot::Operator(OpNo(number), count)
             } else {
                 Slot::Outside
             }
@@ -83,7 +100,7 @@ fn item_at(words: &[u16], at: usize) -> Slot
 // Whether the first `items` slots from `at` on are one whole pattern of 1 to 64 items: each item that is read takes one
 // from the patterns still to be read, and adds its children.
 fn is_side(words: &[u16], at: usize, items: usize) -> bool
-    requires { ⌜ at + itemLimit * 3 ≤ length (now words) ⌝ }
+    requires { ⌜ at + sideWords ≤ length (now words) ⌝ }
     ensures { λ r. ⌜ r ≡ isSide (sideAt (now (words .entry)) at items) ⌝ }
 {
     if items > ITEM_LIMIT {
@@ -96,19 +113,19 @@ fn is_side(words: &[u16], at: usize, items: usize) -> bool
         if pending == 0 {
             return false;
         }
-        let slot = item_at(words, pos);
+        let slot = slot_at(words, pos);
         match slot {
             Slot::Variable(_) => {
                 pending -= 1;
             }
-            Slot::Operator(count) => {
-                pending = pending - 1 + count;
+            Slot::Operator(_, count) => {
+                pending = pending - 1 + wide(count);
             }
             Slot::Outside => {
                 return false;
             }
         }
-        pos += 3;
+        pos += ITEM_WORDS;
         left -= 1;
     }
     pending == 0
@@ -116,18 +133,18 @@ fn is_side(words: &[u16], at: usize, items: usize) -> bool
 
 // Which of the sixteen variables stand in the first `items` slots from `at` on.
 fn variables(words: &[u16], at: usize, items: usize) -> [bool; VARIABLE_LIMIT]
-    requires { ⌜ at + items * 3 ≤ length (now words) ⌝ }
+    requires { ⌜ at + items * itemWords ≤ length (now words) ⌝ }
     ensures { λ r. ⌜ Standing (now (words .entry)) at items r ⌝ }
 {
     let mut on = [false; VARIABLE_LIMIT];
     let mut pos = at;
     let mut left = items;
     while 0 < left {
-        let slot = item_at(words, pos);
+        let slot = slot_at(words, pos);
         if let Slot::Variable(x) = slot {
             on[x] = true;
         }
-        pos += 3;
+        pos += ITEM_WORDS;
         left -= 1;
     }
     on
@@ -135,55 +152,55 @@ fn variables(words: &[u16], at: usize, items: usize) -> [bool; VARIABLE_LIMIT]
 
 // Whether each variable in the first `items` slots from `at` on is one of those given.
 fn all_known(words: &[u16], at: usize, items: usize, on: [bool; VARIABLE_LIMIT]) -> bool
-    requires { ⌜ at + items * 3 ≤ length (now words) ⌝ }
+    requires { ⌜ at + items * itemWords ≤ length (now words) ⌝ }
     ensures { λ r. ⌜ r ≡ knownFrom on (now (words .entry)) at items ⌝ }
 {
     let mut pos = at;
     let mut left = items;
     while 0 < left {
-        let slot = item_at(words, pos);
+        let slot = slot_at(words, pos);
         if let Slot::Variable(x) = slot {
             if !on[x] {
                 return false;
             }
         }
-        pos += 3;
+        pos += ITEM_WORDS;
         left -= 1;
     }
     true
 }
 
-// Judges one entry behind the `count` accepted ones of `rules`: 2, 3, 5, the lowest number first.
-pub fn judge_rule(rules: &[u16], count: usize, entry: &[u16]) -> Judgement
-    requires { ⌜ Accepted (now rules) count ⌝ }
-    ensures { λ r. ⌜ r ≡ judgementOf (withEntry (now (rules .entry)) count (entryOf (now (entry .entry)))) ⌝ }
+// Judges one entry behind the accepted ones of `rules`: 2, 3, 5, the lowest number first.
+pub fn judge_rule(rules: &[u16], entry: &[u16]) -> Judgement
+    requires { ⌜ AcceptedRules (now rules) ⌝ }
+    ensures { λ r. ⌜ r ≡ judgementOf (withEntry (now (rules .entry)) (entryOf (now (entry .entry)))) ⌝ }
 {
     if entry.len() != RULE_WORDS {
         return Judgement::Faulty(2);
     }
     let left = entry[1] as usize;
     let right = entry[2] as usize;
-    if !is_side(entry, LEFT, left) {
+    if !is_side(entry, LEFT_AT, left) {
         return Judgement::Faulty(2);
     }
-    if !is_side(entry, RIGHT, right) {
+    if !is_side(entry, RIGHT_AT, right) {
         return Judgement::Faulty(2);
     }
-    if count >= RULE_LIMIT {
+    if rules.len() / RULE_WORDS >= RULE_LIMIT {
         return Judgement::Faulty(3);
     }
-    let found = find_rule(rules, count, RuleNo(entry[0]));
+    let found = find_rule(rules, RuleNo(entry[0]));
     if let Listed::At(_) = found {
         return Judgement::Faulty(5);
     }
-    let on = variables(entry, LEFT, left);
-    if !all_known(entry, RIGHT, right, on) {
+    let on = variables(entry, LEFT_AT, left);
+    if !all_known(entry, RIGHT_AT, right, on) {
         return Judgement::Faulty(5);
     }
     Judgement::Taken
 }
 
-// Where the entry that starts at `pos` ends: 387 words on, or with the table.
+// Where the entry that starts at `pos` ends: an entry's words on, or with the table.
 fn entry_end(len: usize, pos: usize) -> usize
     requires { ⌜ pos ≤ len ⌝ }
     ensures { λ r. ⌜ r ≡ min (pos + ruleWords) len ⌝ }
@@ -195,20 +212,19 @@ fn entry_end(len: usize, pos: usize) -> usize
     }
 }
 
-// Judges a whole table, entry by entry: the first bad one decides. A part of an entry at the end has the wrong length.
+// Judges a whole table, each entry behind those before it: the first bad one decides. A part of an entry at the end has the
+// wrong length.
 pub fn judge_rules(rules: &[u16]) -> Judgement
     ensures { λ r. ⌜ r ≡ judgementOf (ruleTable (now (rules .entry))) ⌝ }
 {
     let len = rules.len();
-    let mut count: usize = 0;
     let mut pos: usize = 0;
     while pos < len {
         let end = entry_end(len, pos);
-        let judged = judge_rule(rules, count, &rules[pos..end]);
+        let judged = judge_rule(&rules[..pos], &rules[pos..end]);
         if let Judgement::Faulty(n) = judged {
             return Judgement::Faulty(n);
         }
-        count += 1;
         pos = end;
     }
     Judgement::Taken

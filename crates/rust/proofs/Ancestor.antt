@@ -1,19 +1,26 @@
 -- The Rust's common ancestor of two joined nodes is where the two climbs meet.
 use Prim.Native.Nat.{ℕ, zero, suc, _+_, _<_}
 use mathlib.Core.Path.{_≡_, refl, sym, ap, _∙_}
-use mathlib.Core.Bool.{Bool, true, false, cond, _&&_, and-eq-true-iff}
-use mathlib.Core.List.{List, []}
+use mathlib.Core.Bool.{Bool, true, false, not, _||_}
+use mathlib.Core.List.{List, [], _∷_}
 use mathlib.Core.Option.{Option, none, some}
 use native.Mathlib.Omega.{arith}
 use native.Mathlib.Decide.{ℕ-discrete}
-use borrow.Author.Tests.{eqb-true}
-use lib.Dec.{eqb}
+use borrow.Author.Tests.{eq-eqb, ne-eqb}
+use lib.ListN.{length}
 use Rattle.model.specs.declared.Connection.{Connection}
+use Rattle.model.specs.Node.{Node}
 use Rattle.model.specs.Forest.{root}
-use Rattle.paths.specs.Hangs.{nextOf, depth, Forest}
+use Rattle.paths.specs.Hangs.{nextOf, depth, Forest, Accepted}
+use Rattle.paths.proofs.Accept.{accepted-forest}
 use Rattle.paths.proofs.Places.{high, low, place}
 use Rattle.paths.proofs.Ways.{climbBy, Lowest, root-climb}
-use Rattle.rust.specs.Paths.{contains, commonAncestor}
+use Rattle.rust.specs.Panics.{_>>_, assert}
+use Rattle.rust.specs.Explain.{Explain}
+use Rattle.rust.specs.Paths.{contains, differ, commonAncestor}
+use Rattle.rust.proofs.Vectors.{on}
+use Rattle.rust.proofs.Built.{Holds}
+use Rattle.rust.proofs.Inside.{parent-is, parent-next, climb-inside}
 use Rattle.rust.proofs.Trails.{trail, Passed, passed, not-passed, climb-next, lowest-any}
 
 -- a node that leads to itself is at the top
@@ -24,13 +31,34 @@ at-top cs n f p =
       | low c o a b t ↦ let e : depth cs (nextOf cs n) ≡ depth cs n = ap (depth cs) p in absurd (omega arith)
     ]
 
+-- a round past its two tests, in which the assertion holds or not
+module _ {ns : List Node} {cs : List Connection} {ex : Explain} (h : Holds ns cs ex) where
+  abbrev moves : ℕ → ℕ → Bool
+  moves a b = differ (nextOf cs a) a || differ (nextOf cs b) b
+
+  round : (d : ℕ) (seenLeft seenRight : List ℕ) (a b : ℕ) → a < length ns → b < length ns → contains seenRight a ≡ false → contains (a ∷ seenLeft) b ≡ false →
+      commonAncestor (suc d) ex seenLeft seenRight a b
+      ≡ _>>_ (assert (moves a b)) (commonAncestor d ex (a ∷ seenLeft) (b ∷ seenRight) (nextOf cs a) (nextOf cs b))
+  unfolding commonAncestor
+  round d seenLeft seenRight a b m n p q =
+      rw (p, q) (on _ (parent-is h a m) ∙ on _ (parent-is h b n)
+      ∙ rw (parent-next cs a, parent-next cs b) refl)
+
 module _
-    (cs : List Connection)
+    {ns : List Node}
+    {cs : List Connection}
+    {ex : Explain}
+    (acc : Accepted ns cs)
+    (held : Holds ns cs ex)
     (l r i j : ℕ)
-    (f : Forest cs)
+    (l-in : l < length ns)
+    (r-in : r < length ns)
     (same : root cs l ≡ root cs r)
     (meet : climbBy cs i l ≡ climbBy cs j r)
     (lowest : Lowest cs l r i j) where
+  abbrev f : Forest cs
+  f = accepted-forest ns cs acc
+
   -- no node has been seen from both sides in the rounds before the k-th
   abbrev Fresh : ℕ → Type 0
   Fresh k = (a b : ℕ) → a < k → b < k → climbBy cs a l ≡ climbBy cs b r → ⊥
@@ -74,7 +102,7 @@ module _
 
   -- a round of the loop, from what its tests say
   abbrev Round : ℕ → ℕ → Type 0
-  Round d k = commonAncestor d cs (trail cs k l) (trail cs k r) (climbBy cs k l) (climbBy cs k r) ≡ some (climbBy cs i l)
+  Round d k = commonAncestor d ex (trail cs k l) (trail cs k r) (climbBy cs k l) (climbBy cs k r) ≡ some (climbBy cs i l)
 
   by-left : (d k : ℕ) → Fresh k → contains (trail cs k r) (climbBy cs k l) ≡ true → Round (suc d) k
   unfolding commonAncestor
@@ -86,45 +114,53 @@ module _
   by-right d k w p q =
       rw (p, q) (ap some (right-seen k w (not-passed k cs r (climbBy cs k l) p) (passed (suc k) cs l (climbBy cs k r) q)))
 
-  abbrev stuck : ℕ → Bool
-  stuck k = eqb (nextOf cs (climbBy cs k l)) (climbBy cs k l) && eqb (nextOf cs (climbBy cs k r)) (climbBy cs k r)
+  -- the assertion holds
+  moving : (k : ℕ) → contains (trail cs (suc k) l) (climbBy cs k r) ≡ false → moves held (climbBy cs k l) (climbBy cs k r) ≡ true
+  moving k q =
+      elim (ℕ-discrete (nextOf cs (climbBy cs k l)) (climbBy cs k l)) [
+        | yes x ↦ elim (ℕ-discrete (nextOf cs (climbBy cs k r)) (climbBy cs k r)) [
+          | yes y ↦ absurd (goes-on k (not-passed (suc k) cs l (climbBy cs k r) q) x y)
+          | no y ↦ rw (eq-eqb _ _ x, ne-eqb _ _ y) refl
+        ]
+        | no x ↦ rw (ne-eqb _ _ x) refl
+      ]
 
   by-none : (d k : ℕ) → Fresh k → contains (trail cs k r) (climbBy cs k l) ≡ false → contains (trail cs (suc k) l) (climbBy cs k r) ≡ false →
-      (Fresh (suc k) → Round d (suc k)) → (b : Bool) → stuck k ≡ b → Round (suc d) k
-  unfolding commonAncestor
-  by-none d k w p q next true e =
-      let (x, y) = and-eq-true-iff _ _ .0 e in
-      absurd (goes-on k (not-passed (suc k) cs l (climbBy cs k r) q) (eqb-true _ _ x) (eqb-true _ _ y))
-  by-none d k w p q next false e =
-      rw (p, q, e, climb-next k cs l, climb-next k cs r)
+      (Fresh (suc k) → Round d (suc k)) → Round (suc d) k
+  by-none d k w p q next =
+      round held d (trail cs k l) (trail cs k r) (climbBy cs k l) (climbBy cs k r) (climb-inside ns cs acc k l l-in) (climb-inside ns cs acc k r r-in) p q
+      ∙ rw (moving k q, climb-next k cs l, climb-next k cs r)
       (next (fresh-more k w (not-passed k cs r (climbBy cs k l) p) (not-passed (suc k) cs l (climbBy cs k r) q)))
 
   from : (d k : ℕ) → Fresh k → i + j < k + d → Round d k
   from zero k w h = absurd (w i j (omega arith) (omega arith) meet)
-  from (suc d) k w h = go (contains (trail cs k r) (climbBy cs k l)) refl (contains (trail cs (suc k) l) (climbBy cs k r)) refl (λ x. from d (suc k) x (omega arith))
+  from (suc d) k w h =
+      go (contains (trail cs k r) (climbBy cs k l)) refl (contains (trail cs (suc k) l) (climbBy cs k r)) refl (λ x. from d (suc k) x (omega arith))
     where
       go : (b : Bool) → contains (trail cs k r) (climbBy cs k l) ≡ b → (c : Bool) → contains (trail cs (suc k) l) (climbBy cs k r) ≡ c →
           (Fresh (suc k) → Round d (suc k)) → Round (suc d) k
       go true p c q next = by-left d k w p
       go false p true q next = by-right d k w p q
-      go false p false q next = by-none d k w p q next (stuck k) refl
+      go false p false q next = by-none d k w p q next
 
-  pub ancestor : (rounds : ℕ) → i + j < rounds → commonAncestor rounds cs [] [] l r ≡ some (climbBy cs i l)
+  pub ancestor : (rounds : ℕ) → i + j < rounds → commonAncestor rounds ex [] [] l r ≡ some (climbBy cs i l)
   unfolding climbBy
   ancestor rounds h = from rounds 0 (λ a b p q e. omega arith) (omega arith)
 
 -- and of two nodes that are not joined it finds none: the Rust's assertion fails
-module _ (cs : List Connection) (l r : ℕ) (f : Forest cs) (apart : root cs l ≡ root cs r → ⊥) where
+module _ {ns : List Node} {cs : List Connection} {ex : Explain} (acc : Accepted ns cs) (held : Holds ns cs ex) (l r : ℕ)
+    (l-in : l < length ns) (r-in : r < length ns) (apart : root cs l ≡ root cs r → ⊥) where
   never : (a b : ℕ) → climbBy cs a l ≡ climbBy cs b r → ⊥
-  never a b e = apart (sym (root-climb a cs l f) ∙ ap (root cs) e ∙ root-climb b cs r f)
+  never a b e = let f = accepted-forest ns cs acc in apart (sym (root-climb a cs l f) ∙ ap (root cs) e ∙ root-climb b cs r f)
 
-  no-from : (d k : ℕ) → commonAncestor d cs (trail cs k l) (trail cs k r) (climbBy cs k l) (climbBy cs k r) ≡ none
+  no-from : (d k : ℕ) → commonAncestor d ex (trail cs k l) (trail cs k r) (climbBy cs k l) (climbBy cs k r) ≡ none
   unfolding commonAncestor
   no-from zero k = refl
   no-from (suc d) k =
-      rw (unseen-left (contains (trail cs k r) (climbBy cs k l)) refl, unseen-right (contains (trail cs (suc k) l) (climbBy cs k r)) refl)
-      (go (eqb (nextOf cs (climbBy cs k l)) (climbBy cs k l) && eqb (nextOf cs (climbBy cs k r)) (climbBy cs k r))
-      (rw (climb-next k cs l, climb-next k cs r) (no-from d (suc k))))
+      round held d (trail cs k l) (trail cs k r) (climbBy cs k l) (climbBy cs k r) (climb-inside ns cs acc k l l-in) (climb-inside ns cs acc k r r-in)
+      (unseen-left (contains (trail cs k r) (climbBy cs k l)) refl)
+      (unseen-right (contains (trail cs (suc k) l) (climbBy cs k r)) refl)
+      ∙ go (moves held (climbBy cs k l) (climbBy cs k r)) (rw (climb-next k cs l, climb-next k cs r) (no-from d (suc k)))
     where
       unseen-left : (b : Bool) → contains (trail cs k r) (climbBy cs k l) ≡ b → contains (trail cs k r) (climbBy cs k l) ≡ false
       unseen-left true p = let q = passed k cs r (climbBy cs k l) p in absurd (never k (q .at) (sym (q .is)))
@@ -134,10 +170,10 @@ module _ (cs : List Connection) (l r : ℕ) (f : Forest cs) (apart : root cs l �
       unseen-right true p = let q = passed (suc k) cs l (climbBy cs k r) p in absurd (never (q .at) k (q .is))
       unseen-right false p = p
 
-      go : {A : Type 0} {x : Option A} (b : Bool) → x ≡ none → cond b none x ≡ none
-      go true p = refl
-      go false p = p
+      go : {A : Type 0} {x : Option A} (b : Bool) → x ≡ none → _>>_ (assert b) x ≡ none
+      go true p = p
+      go false p = refl
 
-  pub no-ancestor : (rounds : ℕ) → commonAncestor rounds cs [] [] l r ≡ none
+  pub no-ancestor : (rounds : ℕ) → commonAncestor rounds ex [] [] l r ≡ none
   unfolding climbBy
   no-ancestor rounds = no-from rounds 0

@@ -1,85 +1,142 @@
--- The Rust's path between two joined nodes is document 01's.
-use Prim.Native.Nat.{ℕ, zero, suc, _+_, _≤_, _<_}
+-- The Rust's path between two nodes, without its memo, is document 01's.
+use Prim.Native.Nat.{ℕ, zero, suc, _+_, _*_, _≤_, _<_}
 use mathlib.Core.Path.{_≡_, refl, sym, ap, ap₂, _∙_}
 use mathlib.Core.Bool.{Bool, true, false}
 use mathlib.Core.List.{List, [], _∷_, _++_, map, reverse, append-assoc, append-nil, map-append, reverse-cons}
-use mathlib.Core.Option.{none, some}
+use mathlib.Core.Option.{Option, none, some}
 use native.Mathlib.Omega.{arith}
-use borrow.Author.Tests.{eq-eqb, ne-eqb}
-use Rattle.model.specs.declared.Connection.{Connection}
-use Rattle.model.specs.Forest.{root, Hop, path}
-use Rattle.paths.specs.Hangs.{nextOf, depth, Forest}
+use borrow.Author.Tests.{eq-eqb, ne-eqb, le-leb, lt-leb}
+use lib.ListN.{length}
+use Rattle.model.specs.declared.Connection.{Connection as TableConnection}
+use Rattle.model.specs.Node.{Node}
+use Rattle.model.specs.Forest.{nxt, root, path}
+use Rattle.paths.specs.Hangs.{nextOf, depth, Forest, Accepted}
+use Rattle.paths.proofs.Accept.{accepted-forest}
+use Rattle.paths.proofs.Bound.{depth-le}
 use Rattle.paths.proofs.Places.{high, low, place}
 use Rattle.paths.proofs.Ways.{climbBy, depth-climb, hop-low, ups, downs, meets}
 use Rattle.paths.proofs.Climbed.{hopOf}
-use Rattle.rust.specs.Paths.{push, getConnections, both, pathTo, rustPath}
+use Rattle.rust.specs.Explain.{Connection, Explain}
+use Rattle.rust.specs.Paths.{connectionsFrom, getConnections, Path, getPathUnoptimized, turned, turnedFrom, walked}
+use Rattle.rust.proofs.Vectors.{on, off}
+use Rattle.rust.specs.Read.{up, down, asWalked}
+use Rattle.rust.proofs.Built.{Holds}
+use Rattle.rust.proofs.Inside.{parent-up, next-inside}
 use Rattle.rust.proofs.Ancestor.{ancestor, no-ancestor}
 
 -- the connections of a climb
-abbrev connOf : List Connection → (ℕ → ℕ → List Connection) → Connection → Bool → List Connection
-connOf _ _ c u = c ∷ []
+abbrev connOf : List TableConnection → (ℕ → ℕ → List Connection) → TableConnection → Bool → List Connection
+connOf _ _ c u = up c ∷ []
 
-abbrev connectionsUp : List Connection → ℕ → ℕ → List Connection
+abbrev connectionsUp : List TableConnection → ℕ → ℕ → List Connection
 connectionsUp cs i n = ups [] _++_ connOf cs i n
 
-connections : (i rounds : ℕ) (cs : List Connection) (n : ℕ) → Forest cs → i ≤ depth cs n → i < rounds →
-    getConnections rounds cs n (climbBy cs i n) ≡ some (connectionsUp cs i n)
-unfolding getConnections climbBy ups
-connections i zero cs n f h k = absurd (omega arith)
-connections zero (suc rounds) cs n f h k = rw (eq-eqb n n refl) refl
-connections (suc i) (suc rounds) cs n f h k =
-    elim (place cs n f) [
-      | high a b ↦ absurd (omega arith)
-      | low c o a b t ↦
-          let e : n ≡ climbBy cs i (nextOf cs n) → ⊥ =
-          λ q. let y : depth cs n ≡ depth cs (climbBy cs i (nextOf cs n)) = ap (depth cs) q in
-          omega (arith, depth-climb i cs (nextOf cs n) f (omega arith)) in
-          rw (ne-eqb _ _ e, a) (ap (λ (x : ℕ). push c (getConnections rounds cs x (climbBy cs i (nextOf cs n)))) (sym b)
-          ∙ ap (push c) (connections i rounds cs (nextOf cs n) f (omega arith) (omega arith))
-          ∙ ap (λ (x : List Connection). some (x ++ connectionsUp cs i (nextOf cs n))) (sym (hop-low [] _++_ connOf cs n true a)))
-    ]
+module _ {ns : List Node} {cs : List TableConnection} {ex : Explain} (acc : Accepted ns cs) (held : Holds ns cs ex) where
+  abbrev f : Forest cs
+  f = accepted-forest ns cs acc
 
--- walked up they are the way up, and walked down, the last first, the way down
-walked-up : (i : ℕ) (cs : List Connection) (n : ℕ) → Forest cs → i ≤ depth cs n →
-    ups [] _++_ hopOf cs i n ≡ map (λ c. record { conn = c; up = true }) (connectionsUp cs i n)
-unfolding ups
-walked-up zero cs n f h = refl
-walked-up (suc i) cs n f h =
-    elim (place cs n f) [
-      | high a b ↦ absurd (omega arith)
-      | low c o a b t ↦
-          rw (hop-low [] _++_ hopOf cs n true a, hop-low [] _++_ connOf cs n true a)
-          (ap (_∷_ (record { conn = c; up = true })) (walked-up i cs (nextOf cs n) f (omega arith)))
-    ]
+  -- a node of a climb of one connection and more is another one
+  other : (i n : ℕ) → suc i ≤ depth cs n → climbBy cs (suc i) n ≡ n → ⊥
+  other i n h q = let y : depth cs (climbBy cs (suc i) n) ≡ depth cs n = ap (depth cs) q in omega (arith, depth-climb (suc i) cs n f h)
 
-walked-down : (i : ℕ) (cs : List Connection) (n : ℕ) → Forest cs → i ≤ depth cs n →
-    downs [] _++_ hopOf cs i n ≡ map (λ c. record { conn = c; up = false }) (reverse (connectionsUp cs i n))
-unfolding ups downs
-walked-down zero cs n f h = refl
-walked-down (suc i) cs n f h =
-    elim (place cs n f) [
-      | high a b ↦ absurd (omega arith)
-      | low c o a b t ↦
-          rw (hop-low [] _++_ hopOf cs n false a, hop-low [] _++_ connOf cs n true a)
-          (ap (λ (x : List Hop). x ++ (record { conn = c; up = false } ∷ [])) (walked-down i cs (nextOf cs n) f (omega arith))
-          ∙ sym (map-append (λ c. record { conn = c; up = false }) (reverse (connectionsUp cs i (nextOf cs n))) (c ∷ []))
-          ∙ ap (map (λ c. record { conn = c; up = false })) (sym (reverse-cons c (connectionsUp cs i (nextOf cs n)))))
-    ]
+  from : (i rounds n : ℕ) → suc i ≤ depth cs n → i < rounds → n < length ns →
+      connectionsFrom rounds ex n (climbBy cs (suc i) n) ≡ some (connectionsUp cs (suc i) n)
+  unfolding connectionsFrom climbBy ups
+  from i zero n h k m = absurd (omega arith)
+  from zero (suc rounds) n h k m =
+      elim (place cs n f) [
+        | high a b ↦ absurd (omega arith)
+        | low c o a b t ↦
+            on _ (parent-up held n m a)
+            ∙ rw (eq-eqb (nxt c) (nextOf cs n) (sym b)) (ap (λ (x : List Connection). some (x ++ [])) (sym (hop-low [] _++_ connOf cs n true a)))
+      ]
+  from (suc i) (suc rounds) n h k m =
+      elim (place cs n f) [
+        | high a b ↦ absurd (omega arith)
+        | low c o a b t ↦
+            let x = nextOf cs n in
+            on _ (parent-up held n m a)
+            ∙ rw (ne-eqb (nxt c) (climbBy cs (suc i) x) (λ q. other i x (omega arith) (sym (b ∙ q))), ne-eqb (nxt c) n (λ q. other 0 n (omega arith) (b ∙ q)))
+            (on _ (ap (λ (y : ℕ). connectionsFrom rounds ex y (climbBy cs (suc i) x)) (sym b)
+            ∙ from i rounds x (omega arith) (omega arith) (next-inside ns cs acc n m))
+            ∙ ap (λ (y : List Connection). some (y ++ connectionsUp cs (suc i) x)) (sym (hop-low [] _++_ connOf cs n true a)))
+      ]
 
--- THE RUST'S PATH, in as many rounds as the two nodes are deep and one, is document 01's
-pub path-rust : (rounds : ℕ) (cs : List Connection) (l r : ℕ) → Forest cs → root cs l ≡ root cs r → depth cs l + depth cs r < rounds →
-    rustPath rounds cs l r ≡ some (path cs l r)
-unfolding rustPath path
-path-rust rounds cs l r f same h =
-    let m = meets [] _++_ hopOf append-assoc (λ x. refl) append-nil cs l r f same in
-    let a = ancestor cs l r (m .i) (m .j) f same (m .meet) (m .lowest) rounds (omega (arith, m .left, m .right)) in
-    let x = connections (m .i) rounds cs l f (omega (arith, m .left)) (omega (arith, m .left)) in
-    let y = connections (m .j) rounds cs r f (omega (arith, m .right)) (omega (arith, m .right)) in
-    ap (pathTo rounds cs l r) a
-    ∙ ap₂ both x (ap (getConnections rounds cs r) (m .meet) ∙ y)
-    ∙ ap some (ap₂ _++_ (sym (walked-up (m .i) cs l f (omega (arith, m .left)))) (sym (walked-down (m .j) cs r f (omega (arith, m .right)))) ∙ sym (m .whole))
+  connections : (i rounds n : ℕ) → i ≤ depth cs n → i < rounds → n < length ns →
+      getConnections rounds ex n (climbBy cs i n) ≡ some (connectionsUp cs i n)
+  unfolding getConnections climbBy ups
+  connections zero rounds n h k m = rw (eq-eqb n n refl) refl
+  connections (suc i) rounds n h k m = rw (ne-eqb _ _ (λ q. other i n h (sym q))) (from i rounds n h (omega arith) m)
 
--- and the Rust has none where document 01 says 9
-pub no-path-rust : (rounds : ℕ) (cs : List Connection) (l r : ℕ) → Forest cs → (root cs l ≡ root cs r → ⊥) → rustPath rounds cs l r ≡ none
-unfolding rustPath
-no-path-rust rounds cs l r f apart = ap (pathTo rounds cs l r) (no-ancestor cs l r f apart rounds)
+  -- walked up they are the way up, and walked down, the last first and each turned, the way down
+  walked-up : (i n : ℕ) → i ≤ depth cs n → map asWalked (ups [] _++_ hopOf cs i n) ≡ connectionsUp cs i n
+  unfolding ups
+  walked-up zero n h = refl
+  walked-up (suc i) n h =
+      elim (place cs n f) [
+        | high a b ↦ absurd (omega arith)
+        | low c o a b t ↦
+            rw (hop-low [] _++_ hopOf cs n true a, hop-low [] _++_ connOf cs n true a) (ap (_∷_ (up c)) (walked-up i (nextOf cs n) (omega arith)))
+      ]
+
+  walked-down : (i n : ℕ) → i ≤ depth cs n → map asWalked (downs [] _++_ hopOf cs i n) ≡ map turned (reverse (connectionsUp cs i n))
+  unfolding ups downs
+  walked-down zero n h = refl
+  walked-down (suc i) n h =
+      elim (place cs n f) [
+        | high a b ↦ absurd (omega arith)
+        | low c o a b t ↦
+            rw (hop-low [] _++_ hopOf cs n false a, hop-low [] _++_ connOf cs n true a)
+            (map-append asWalked (downs [] _++_ hopOf cs i (nextOf cs n)) (record { conn = c; up = false } ∷ [])
+            ∙ ap (λ (x : List Connection). x ++ (down c ∷ [])) (walked-down i (nextOf cs n) (omega arith))
+            ∙ sym (map-append turned (reverse (connectionsUp cs i (nextOf cs n))) (up c ∷ []))
+            ∙ ap (map turned) (sym (reverse-cons (up c) (connectionsUp cs i (nextOf cs n)))))
+      ]
+
+-- the loop of explain_enodes: the left connections as they are, the right ones turned
+turned-left : (k i : ℕ) (xs ys : List Connection) → i + length xs ≡ k → turnedFrom k i (xs ++ ys) ≡ xs ++ turnedFrom k k ys
+unfolding turnedFrom
+turned-left k i [] ys h = ap (λ (x : ℕ). turnedFrom k x ys) (omega arith)
+turned-left k i (x ∷ xs) ys h = rw (lt-leb k i (omega arith)) (ap (_∷_ x) (turned-left k (suc i) xs ys (omega arith)))
+
+turned-right : (k i : ℕ) (ys : List Connection) → k ≤ i → turnedFrom k i ys ≡ map turned ys
+unfolding turnedFrom
+turned-right k i [] h = refl
+turned-right k i (y ∷ ys) h = rw (le-leb k i h) (ap (_∷_ (turned y)) (turned-right k (suc i) ys (omega arith)))
+
+pub walked-is : (p : Path) → walked p ≡ p .lefts ++ map turned (reverse (p .rights))
+walked-is p =
+    turned-left (length (p .lefts)) 0 (p .lefts) (reverse (p .rights)) (omega arith)
+    ∙ ap (_++_ (p .lefts)) (turned-right (length (p .lefts)) (length (p .lefts)) (reverse (p .rights)) (omega arith))
+
+-- THE RUST'S PATH without the memo, in rounds enough to climb from both nodes, is document 01's
+pub record Walks (cs : List TableConnection) (l r : ℕ) (found : Option Path) : Type 0 where
+  pub way : Path
+  pub is : found ≡ some way
+  pub same : walked way ≡ map asWalked (path cs l r)
+
+module _ {ns : List Node} {cs : List TableConnection} {ex : Explain} (acc : Accepted ns cs) (held : Holds ns cs ex)
+    (rounds : ℕ) (enough : 2 * length cs < rounds) (l r : ℕ) (l-in : l < length ns) (r-in : r < length ns) where
+  pub unoptimized : root cs l ≡ root cs r → Walks cs l r (getPathUnoptimized rounds ex l r)
+  unfolding getPathUnoptimized path
+  unoptimized same =
+      let f = accepted-forest ns cs acc in
+      let m = meets [] _++_ hopOf append-assoc (λ x. refl) append-nil cs l r f same in
+      let far : depth cs l + depth cs r < rounds = omega (arith, depth-le cs l f, depth-le cs r f) in
+      let a = ancestor acc held l r (m .i) (m .j) l-in r-in same (m .meet) (m .lowest) rounds (omega (arith, m .left, m .right)) in
+      let x = connections acc held (m .i) rounds l (omega (arith, m .left)) (omega (arith, m .left)) l-in in
+      let y = connections acc held (m .j) rounds r (omega (arith, m .right)) (omega (arith, m .right)) r-in in
+      let p : Path = record { lefts = connectionsUp cs (m .i) l; rights = connectionsUp cs (m .j) r } in
+      record {
+        way = p;
+        is = on _ a ∙ on _ x ∙ on _ (ap (getConnections rounds ex r) (m .meet) ∙ y);
+        same = walked-is p
+            ∙ sym (ap (map asWalked) (m .whole)
+            ∙ map-append asWalked (ups [] _++_ hopOf cs (m .i) l) (downs [] _++_ hopOf cs (m .j) r)
+            ∙ ap₂ _++_ (walked-up acc held (m .i) l (omega (arith, m .left))) (walked-down acc held (m .j) r (omega (arith, m .right))));
+      }
+
+  -- and the Rust panics where document 01 says 9
+  pub no-unoptimized : (root cs l ≡ root cs r → ⊥) → getPathUnoptimized rounds ex l r ≡ none
+  unfolding getPathUnoptimized
+  no-unoptimized apart = off _ (no-ancestor acc held l r l-in r-in apart rounds)

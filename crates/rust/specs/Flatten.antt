@@ -1,109 +1,173 @@
--- The Rust on values: how src/explain.rs makes a flat proof. Each definition has the name of its function there, or says which it is.
--- The Rust makes a tree of proofs first (`explain_enodes`) and flattens it then (`flatten_proof`); here each proof is flattened as it is made.
--- A `Vec` of terms is a row. `nesting` and `rounds` bound calls and loops, as for distances.
+-- The Rust on values: how src/explain.rs flattens a tree of proofs. Each definition has the name of its type or function there.
+-- antt has no trees over lists of trees: a `Vec` of terms is a row, first child and next sibling, as in the model.
 use Prim.Native.Nat.{ℕ, zero, suc}
-use mathlib.Core.Bool.{Bool, true, false, cond}
+use mathlib.Core.Bool.{Bool, true, false, cond, _||_}
 use mathlib.Core.List.{List, [], _∷_}
 use mathlib.Core.Option.{Option, none, some}
-use Rattle.model.specs.declared.Connection.{Connection}
-use Rattle.model.specs.declared.Justification.{Justification}
-use Rattle.model.specs.declared.Justification.the-variants.{Rule as byRule, Congruence}
-use Rattle.model.specs.Term.{Mark, unmarked, marked, Terms, noTerms, tree, count, join, one, strip}
-use Rattle.model.specs.Step.{someMark, isMark}
-use Rattle.model.specs.Node.{Node, opOf, kidsOf, termOf}
-use Rattle.model.specs.Forest.{cur, nxt, Hop}
-use Rattle.model.specs.Flat.{markFor, markedTerm, within}
-use Rattle.flat.specs.Ends.{first, last}
-use Rattle.rust.specs.Paths.{rustPath}
+use lib.Dec.{eqb}
+use Rattle.rust.specs.Panics.{_>>=_, _>>_}
 
--- fn combine_rewrites: the marks of another term put on this one, children paired to the end of the shorter list
-abbrev pub combineMark : Mark → Mark → Mark
-combineMark m unmarked = m
-combineMark m (marked d n) = marked d n
+-- type TreeExplanation, a `Vec` of `TreeTerm`s (operator, backward_rule, forward_rule, child_proofs), and child_proofs, a `Vec` of these
+mutual
+  pub data Trees : Type 0 where
+    noTrees : Trees
+    treeTerm : ℕ → Option ℕ → Option ℕ → Proofs → Trees → Trees
 
-unfoldable pub combine : Terms → Terms → Terms
-combine noTerms g = noTerms
-combine (tree o m k s) noTerms = tree o m k s
-combine (tree o m k s) (tree o′ m′ k′ s′) = tree o (combineMark m m′) (combine k k′) (combine s s′)
+  pub data Proofs : Type 0 where
+    noProofs : Proofs
+    proofOf : Trees → Proofs → Proofs
 
--- `pop`: all terms but the last, and `skip(1)`: all but the first
-unfoldable pub front : Terms → Terms
-front noTerms = noTerms
-front (tree o m k noTerms) = noTerms
-front (tree o m k (tree o′ m′ k′ s)) = tree o m k (front (tree o′ m′ k′ s))
+-- type FlatExplanation, a `Vec` of `FlatTerm`s: operator, backward_rule, forward_rule, children
+pub data Flats : Type 0 where
+  noFlats : Flats
+  flatTerm : ℕ → Option ℕ → Option ℕ → Flats → Flats → Flats
 
-abbrev pub rest : Terms → Terms
-rest noTerms = noTerms
-rest (tree o m k s) = s
+-- `Option::is_some`
+abbrev pub isSome : Option ℕ → Bool
+isSome none = false
+isSome (some n) = true
 
--- fn flatten_proof, a round of its loop: an explanation whose first term is unmarked is merged into the last term written
-unfoldable pub extend : Terms → Terms → Terms
-unfolding someMark join front combine last
-extend noTerms explanation = explanation
-extend (tree o m k s) explanation =
-    cond (someMark isMark (first explanation)) (join (tree o m k s) explanation)
-    (join (front (tree o m k s)) (join (combine (first explanation) (last (tree o m k s))) (rest explanation)))
+-- the first term of a `Vec` (as a row of one), those behind it, the last one, and those before it
+abbrev pub firstOf : Flats → Option Flats
+firstOf noFlats = none
+firstOf (flatTerm o b f k s) = some (flatTerm o b f k noFlats)
 
-unfoldable pub flattened : (Hop → Terms) → Terms → List Hop → Terms
+abbrev pub skipOne : Flats → Flats
+skipOne noFlats = noFlats
+skipOne (flatTerm o b f k s) = s
+
+unfoldable pub lastOf : Flats → Option Flats
+lastOf noFlats = none
+lastOf (flatTerm o b f k noFlats) = some (flatTerm o b f k noFlats)
+lastOf (flatTerm o b f k (flatTerm o′ b′ f′ k′ s)) = lastOf (flatTerm o′ b′ f′ k′ s)
+
+unfoldable pub dropLast : Flats → Flats
+dropLast noFlats = noFlats
+dropLast (flatTerm o b f k noFlats) = noFlats
+dropLast (flatTerm o b f k (flatTerm o′ b′ f′ k′ s)) = flatTerm o b f k (dropLast (flatTerm o′ b′ f′ k′ s))
+
+-- `Vec::extend`
+unfoldable pub extend : Flats → Flats → Flats
+extend noFlats g = g
+extend (flatTerm o b f k s) g = flatTerm o b f k (extend s g)
+
+-- fn has_rewrite_forward, fn has_rewrite_backward, of any term of a row
+unfoldable pub hasForward : Flats → Bool
+hasForward noFlats = false
+hasForward (flatTerm o b f k s) = isSome f || (hasForward k || hasForward s)
+
+unfoldable pub hasBackward : Flats → Bool
+hasBackward noFlats = false
+hasBackward (flatTerm o b f k s) = isSome b || (hasBackward k || hasBackward s)
+
+-- fn remove_rewrites, of each term of a row
+unfoldable pub removeRewrites : Flats → Flats
+removeRewrites noFlats = noFlats
+removeRewrites (flatTerm o b f k s) = flatTerm o none none (removeRewrites k) (removeRewrites s)
+
+-- fn combine_rewrites: the marks of another term put on this one, where there is none; children are paired to the end of the shorter list
+abbrev pub combineRule : Option ℕ → Option ℕ → Option (Option ℕ)
+combineRule mine none = some mine
+combineRule none (some n) = some (some n)
+combineRule (some m) (some n) = none
+
+unfoldable pub combineRewrites : Flats → Flats → Option Flats
+combineRewrites noFlats g = some noFlats
+combineRewrites (flatTerm o b f k s) noFlats = some (flatTerm o b f k s)
+combineRewrites (flatTerm o b f k s) (flatTerm o′ b′ f′ k′ s′) =
+    do
+      forward ← combineRule f f′
+      backward ← combineRule b b′
+      children ← combineRewrites k k′
+      rest ← combineRewrites s s′
+      some (flatTerm o backward forward children rest)
+
+-- fn flatten_proof, a round of its loop: an explanation whose first term has no mark is merged into the last term written, which is popped
+unfoldable pub appended : Flats → Flats → Option Flats
+unfolding extend lastOf dropLast hasForward hasBackward combineRewrites
+appended noFlats explanation = some explanation
+appended (flatTerm o b f k s) explanation = do
+  first ← firstOf explanation
+  cond (hasForward first || hasBackward first) (some (extend (flatTerm o b f k s) explanation)) do
+    last ← lastOf (flatTerm o b f k s)
+    merged ← combineRewrites first last
+    some (extend (dropLast (flatTerm o b f k s)) (extend merged (skipOne explanation)))
+
+-- `terms[i] = term`
+unfoldable pub setTerm : ℕ → Flats → Flats → Option Flats
 unfolding extend
-flattened adjacent flat [] = flat
-flattened adjacent flat (h ∷ hs) = flattened adjacent (extend flat (adjacent h)) hs
+setTerm i term noFlats = none
+setTerm zero term (flatTerm o b f k s) = some (extend term s)
+setTerm (suc i) term (flatTerm o b f k s) = do
+  rest ← setTerm i term s
+  some (flatTerm o b f k rest)
 
--- fn flatten_explanation of a congruence. `representative_terms`, from the children's flat proofs
-unfoldable pub reps : List Terms → Terms
-unfolding strip first join
-reps [] = noTerms
-reps (p ∷ ps) = join (strip (first p)) (reps ps)
+-- fn flatten_explanation. Its first loop: the first term of each child's proof, without marks
+unfoldable pub representatives : List Flats → Option Flats
+unfolding removeRewrites extend
+representatives [] = some noFlats
+representatives (p ∷ ps) = do
+  first ← firstOf p
+  rest ← representatives ps
+  some (extend (removeRewrites first) rest)
 
--- `proof.last_mut().unwrap().children[i] = ..`
-unfoldable pub setAt : ℕ → Terms → Terms → Terms
-unfolding join
-setAt i c noTerms = noTerms
-setAt zero c (tree o m k s) = join c s
-setAt (suc i) c (tree o m k s) = tree o m k (setAt i c s)
+-- `proof.last_mut().unwrap().children[i] = child`
+abbrev pub setChild : ℕ → Flats → Flats → Option Flats
+setChild i child noFlats = none
+setChild i child (flatTerm o b f k s) = do
+  children ← setTerm i child k
+  some (flatTerm o b f children s)
 
-abbrev pub setChild : ℕ → Terms → Terms → Terms
-setChild i c noTerms = noTerms
-setChild i c (tree o m k s) = tree o m (setAt i c k) s
+-- its inner loops: for each of the others of a child's proof a term of the representatives, the one at place i replaced by it
+unfoldable pub replaced : ℕ → Flats → ℕ → Flats → Flats
+unfolding extend
+replaced i child j noFlats = noFlats
+replaced i child j (flatTerm o b f k s) = extend (cond (eqb j i) child (flatTerm o b f k noFlats)) (replaced i child (suc j) s)
 
--- its loop over the children: `before` are the representatives that were replaced already
-unfoldable pub childRuns : ℕ → Terms → List Terms → Terms → Terms
-unfolding join front last setAt count within reps strip
-childRuns o before [] proof = proof
-childRuns o before (p ∷ ps) proof =
-    childRuns o (join before (strip (last p))) ps
-    (join (join (front proof) (setChild (count before) (first p) (last proof))) (within o before (reps ps) (rest p)))
+unfoldable pub pushed : ℕ → ℕ → Flats → Flats → Flats
+unfolding replaced
+pushed o i reps noFlats = noFlats
+pushed o i reps (flatTerm p b f k s) = flatTerm o none none (replaced i (flatTerm p b f k noFlats) 0 reps) (pushed o i reps s)
 
--- `zip` of the children
-unfoldable pub childProofs : (ℕ → ℕ → Terms) → List ℕ → List ℕ → List Terms
-childProofs flat [] ys = []
-childProofs flat (x ∷ xs) [] = []
-childProofs flat (x ∷ xs) (y ∷ ys) = flat x y ∷ childProofs flat xs ys
+-- its outer loop
+unfoldable pub childLoop : ℕ → ℕ → Flats → List Flats → Flats → Option Flats
+unfolding extend lastOf dropLast setTerm pushed removeRewrites
+childLoop o i reps [] proof = some proof
+childLoop o i reps (p ∷ ps) proof = do
+  first ← firstOf p
+  last ← lastOf proof
+  kept ← setChild i first last
+  end ← lastOf p
+  next ← setTerm i (removeRewrites end) reps
+  childLoop o (suc i) next ps (extend (extend (dropLast proof) kept) (pushed o i reps (skipOne p)))
 
-abbrev pub ofCongruence : ℕ → List Terms → Terms
-ofCongruence o ps = childRuns o noTerms ps (tree o unmarked (reps ps) noTerms)
+-- `proof[0].backward_rule = ..; proof[0].forward_rule = ..`
+abbrev pub setRules : Option ℕ → Option ℕ → Flats → Option Flats
+setRules backward forward noFlats = none
+setRules backward forward (flatTerm o b f k s) = some (flatTerm o backward forward k s)
 
--- fn explain_adjacent, flattened, of a connection walked from node a to node b, `up` where that is as it is and not turned. The
--- flattened `node_to_explanation` of a node is its term. The Rust's caches give what was made before, and play no part here.
-unfoldable pub explainAdjacent : (ℕ → ℕ → Terms) → List Node → Justification → Bool → ℕ → ℕ → Terms
-unfolding childRuns childProofs reps termOf
-explainAdjacent flat ns (byRule n d) up a b = markedTerm ns (markFor (n .0) d up) b
-explainAdjacent flat ns Congruence up a b = ofCongruence (opOf ns a) (childProofs flat (kidsOf ns a) (kidsOf ns b))
+unfoldable pub flattenExplanation : ℕ → Option ℕ → Option ℕ → List Flats → Option Flats
+unfolding representatives childLoop
+flattenExplanation o backward forward ps = do
+  reps ← representatives ps
+  proof ← childLoop o 0 reps ps (flatTerm o none none reps noFlats)
+  setRules backward forward proof
 
-abbrev pub adjacentBy : (ℕ → ℕ → Terms) → List Node → Connection → Bool → Terms
-adjacentBy flat ns c true = explainAdjacent flat ns (c .why) true (cur c) (nxt c)
-adjacentBy flat ns c false = explainAdjacent flat ns (c .why) false (nxt c) (cur c)
+-- fn flatten_proof, and the flattened proofs of the children
+unfoldable mutual
+  unfolding flattenExplanation appended
 
-abbrev pub adjacent : (ℕ → ℕ → Terms) → List Node → Hop → Terms
-adjacent flat ns h = adjacentBy flat ns (h .conn) (h .up)
+  pub flattenProof : Trees → Flats → Option Flats
+  flattenProof noTrees flat = some flat
+  flattenProof (treeTerm o b f kids rest) flat = do
+    ps ← flattenChildren kids
+    explanation ← flattenExplanation o b f ps
+    longer ← appended flat explanation
+    flattenProof rest longer
 
-abbrev pub hopsOf : Option (List Hop) → List Hop
-hopsOf none = []
-hopsOf (some hs) = hs
-
--- fn explain_enodes, flattened
-unfoldable pub explainEnodes : ℕ → ℕ → List Node → List Connection → ℕ → ℕ → Terms
-unfolding flattened explainAdjacent rustPath termOf
-explainEnodes zero rounds ns cs left right = noTerms
-explainEnodes (suc nesting) rounds ns cs left right =
-    flattened (adjacent (explainEnodes nesting rounds ns cs) ns) (one (termOf ns left)) (hopsOf (rustPath rounds cs left right))
+  pub flattenChildren : Proofs → Option (List Flats)
+  flattenChildren noProofs = some []
+  flattenChildren (proofOf p ps) = do
+    q ← flattenProof p noFlats
+    qs ← flattenChildren ps
+    some (q ∷ qs)

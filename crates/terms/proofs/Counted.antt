@@ -7,9 +7,10 @@ use mathlib.Core.Path.{_≡_, refl, ap, sym, _∙_}
 use native.Mathlib.Nat.{zero-add}
 use native.Mathlib.Omega.{arith}
 use lib.ListN.{length, drop, length-drop, drop-of-length-le}
+use Rattle.model.specs.Limits.{flatWords}
 use Rattle.model.specs.Term.{Terms, noTerms, tree, Term, one, count, join, Narrow, words, Reads, read}
-use Rattle.terms.specs.declared.Whole.{Whole}
-use Rattle.terms.specs.declared.Whole.the-variants.{Count, Broken}
+use Rattle.terms.specs.declared.WholeTerms.{WholeTerms}
+use Rattle.terms.specs.declared.WholeTerms.the-variants.{Count, Broken}
 use Rattle.terms.specs.Place.{TermAt}
 use Rattle.terms.specs.Whole.{wholeOf}
 use Rattle.terms.proofs.Rows.{put-words, one-long}
@@ -17,7 +18,7 @@ use Rattle.terms.proofs.Read.{joinTo, read-front, read-words}
 use Rattle.terms.proofs.Place.{term-at, term-drop, term-length}
 
 -- n terms, and those that were read behind them
-abbrev pub countFrom : ℕ → Option Terms → Whole
+abbrev pub countFrom : ℕ → Option Terms → WholeTerms
 countFrom n none = Broken
 countFrom n (some f) = Count (n + count f)
 
@@ -33,7 +34,7 @@ one-more n t (some g) = ap Count (omega arith)
 -- where a walk over the terms is: n are passed, and with those from p on they are what the whole words say
 pub record Counting (ws : List ℕ) (p n : ℕ) : Type 0 where
   pub inside : p ≤ length ws
-  pub few : 4 * n ≤ p
+  pub few : flatWords * n ≤ p
   pub finds : countFrom n (read (drop p ws)) ≡ wholeOf (read ws)
 
 pub whole-first : (ws : List ℕ) → Counting ws 0 0

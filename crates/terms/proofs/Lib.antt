@@ -5,4 +5,4 @@ pub mod Walk
 pub mod Place
 pub mod SameWalk
 pub mod Counted
-pub mod Unique
+pub mod Only

@@ -5,15 +5,16 @@ use mathlib.Core.List.{List, [], _∷_, _++_, append-nil}
 use mathlib.Core.Option.{some}
 use mathlib.Core.Path.{_≡_, refl, ap, sym, _∙_}
 use native.Mathlib.Omega.{arith}
-use lib.ListN.{length, getD, take, drop, length-append, length-drop, take-append-drop}
+use lib.ListN.{length, take, drop, length-append, length-drop, take-append-drop}
 use lib.Seq.{slice, length-slice, length-take-le, take-add, take-append-seam, take-at, drop-at, drop-append-le, drop-append-seam, drop-drop}
+use Rattle.model.specs.Limits.{flatWords}
 use Rattle.model.specs.Term.{Mark, Terms, noTerms, tree, Term, one, count, join, Narrow, words, markWord, ruleWord, read}
-use Rattle.terms.specs.declared.End.{End}
-use Rattle.terms.specs.declared.End.the-variants.{At, Broken}
+use Rattle.terms.specs.declared.TermEnd.{TermEnd}
+use Rattle.terms.specs.declared.TermEnd.the-variants.{At, Broken}
 use Rattle.terms.specs.Place.{nodeOf, TermAt, RowAt, Well, EndIs}
-use Rattle.terms.proofs.Rows.{count-join, words-join, narrow-join, four-words, one-long, first-words, single, one-term}
+use Rattle.terms.proofs.Rows.{count-join, words-join, narrow-join, row-words, one-long, first-words, single, one-term}
 use Rattle.terms.proofs.Read.{read-words, words-inj}
-use Rattle.terms.proofs.Walk.{scan, scan-zero, scan-words, Front, scan-front, drop4}
+use Rattle.terms.proofs.Walk.{scan, scan-zero, scan-words, RowFront, scan-front, drop-node}
 
 module _ (ws : List ℕ) (at e : ℕ) (t : Term) (h : TermAt ws at e t) where
   pub term-length : at + length (words (one t)) ≡ e
@@ -60,12 +61,12 @@ term-same ws at e e′ t u ht hu =
     (sym (ht .spelled) ∙ ap (λ (x : ℕ). slice at x ws) (end-same ws at e e′ t u ht hu) ∙ hu .spelled))
 
 -- what the walk finds is where the term ends
-front-at : (ws : List ℕ) (at e : ℕ) (f : Front (drop at ws) 1 at e) (t : Term) → f .terms ≡ one t → TermAt ws at e t
+front-at : (ws : List ℕ) (at e : ℕ) (f : RowFront (drop at ws) 1 at e) (t : Term) → f .terms ≡ one t → TermAt ws at e t
 front-at ws at e f t q =
     rw (f .end, q)
     (term-at ws at t (f .rest) (rw q at (f .narrow)) (f .spelled ∙ ap (λ (x : Terms). words x ++ f .rest) q))
 
-pub end-go : (ws : List ℕ) (at : ℕ) (r : End) → scan (drop at ws) 1 at ≡ r → EndIs ws at r
+pub end-go : (ws : List ℕ) (at : ℕ) (r : TermEnd) → scan (drop at ws) 1 at ≡ r → EndIs ws at r
 end-go ws at (At e) p =
     let f = scan-front (drop at ws) 1 at e p in
     let s = single (f .terms) (f .counted) in
@@ -74,27 +75,27 @@ end-go ws at Broken p = λ e t h. let q = scan-term ws at e t h in let z : _≡_
 
 -- the node at a place, from what stands there
 pub record Words (ws : List ℕ) (p a b c d : ℕ) (l : List ℕ) : Type 0 where
-  pub room : p + 4 ≤ length ws
-  pub first : getD ws p 0 ≡ a
-  pub second : getD ws (p + 1) 0 ≡ b
-  pub third : getD ws (p + 2) 0 ≡ c
-  pub fourth : getD ws (p + 3) 0 ≡ d
-  pub behind : drop (p + 4) ws ≡ l
+  pub room : p + flatWords ≤ length ws
+  pub first : nodeOf ws p .op .0 ≡ a
+  pub second : nodeOf ws p .count ≡ b
+  pub third : nodeOf ws p .mark ≡ c
+  pub fourth : nodeOf ws p .rule .0 ≡ d
+  pub behind : drop (p + flatWords) ws ≡ l
 
 pub words-at : (ws : List ℕ) (p a b c d : ℕ) (l : List ℕ) → drop p ws ≡ a ∷ b ∷ c ∷ d ∷ l → Words ws p a b c d l
 words-at ws p a b c d l e =
-    let r : p + 4 ≤ length ws = omega (arith, length-drop p ws, ap length e) in
-    let q = drop4 ws p r in
+    let r : p + flatWords ≤ length ws = omega (arith, length-drop p ws, ap length e) in
+    let q = drop-node ws p r in
     record { room = r; first = cc; second = cc; third = cc; fourth = cc; behind = cc }
 
 -- the first term of a row: its node, what is below it with the rest (going down), the term itself and the rest (passing over)
 pub record Tree (ws : List ℕ) (at n o : ℕ) (m : Mark) (k s : Terms) : Type 0 where
-  pub room : at + 4 ≤ length ws
-  pub op : getD ws at 0 ≡ o
-  pub kids : getD ws (at + 1) 0 ≡ count k
-  pub mark : getD ws (at + 2) 0 ≡ markWord m
-  pub rule : getD ws (at + 3) 0 ≡ ruleWord m
-  pub below : RowAt ws (at + 4) (count k + n) (join k s)
+  pub room : at + flatWords ≤ length ws
+  pub op : nodeOf ws at .op .0 ≡ o
+  pub kids : nodeOf ws at .count ≡ count k
+  pub mark : nodeOf ws at .mark ≡ markWord m
+  pub rule : nodeOf ws at .rule .0 ≡ ruleWord m
+  pub below : RowAt ws (at + flatWords) (count k + n) (join k s)
   pub stop : ℕ
   pub term : TermAt ws at stop (record { op = o; mark = m; kids = k })
   pub behind : RowAt ws stop n s
@@ -141,7 +142,7 @@ read-row ws f e =
     record { narrow = r .narrow; counted = refl; rest = []; spelled = r .spelled ∙ sym (append-nil (words f)) }
 
 -- what the code asks for, from a row
-pub row-room : (ws : List ℕ) (at n : ℕ) (f : Terms) → RowAt ws at (suc n) f → at + 4 ≤ length ws
+pub row-room : (ws : List ℕ) (at n : ℕ) (f : Terms) → RowAt ws at (suc n) f → at + flatWords ≤ length ws
 unfolding count
 row-room ws at n noTerms h = absurd (omega (arith, h .counted))
 row-room ws at n (tree o m k s) h = row-tree ws at n o m k s h .room
@@ -151,13 +152,13 @@ unfolding count
 row-well ws at n noTerms h = absurd (omega (arith, h .counted))
 row-well ws at n (tree o m k s) h = let t = row-tree ws at n o m k s h in term-well ws at (t .stop) _ (t .term)
 
-pub well-room : (ws : List ℕ) (at : ℕ) → Well ws at → at + 4 ≤ length ws
+pub well-room : (ws : List ℕ) (at : ℕ) → Well ws at → at + flatWords ≤ length ws
 well-room ws at w = row-room ws at 0 (one (w .term)) (term-row ws at (w .end) (w .term) (w .is))
 
 -- a row has four words for each term
-pub row-fits : (ws : List ℕ) (at n : ℕ) (f : Terms) → RowAt ws at n f → 4 * n ≤ length ws
+pub row-fits : (ws : List ℕ) (at n : ℕ) (f : Terms) → RowAt ws at n f → flatWords * n ≤ length ws
 row-fits ws at n f h =
-    omega (arith, four-words f, h .counted, length-drop at ws, ap length (h .spelled), length-append (words f) (h .rest))
+    omega (arith, row-words f, h .counted, length-drop at ws, ap length (h .spelled), length-append (words f) (h .rest))
 
 -- the rows of as many terms at a place are one
 row-scan : (ws : List ℕ) (at n : ℕ) (f : Terms) → RowAt ws at n f → scan (drop at ws) n at ≡ At (at + length (words f))

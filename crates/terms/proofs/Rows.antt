@@ -6,6 +6,7 @@ use mathlib.Core.Path.{_≡_, refl, ap, sym, _∙_}
 use native.Mathlib.Nat.{zero-add, suc-add}
 use native.Mathlib.Omega.{arith}
 use lib.ListN.{length, length-append}
+use Rattle.model.specs.Limits.{flatWords}
 use Rattle.model.specs.Term.{Mark, Terms, noTerms, tree, Term, put, one, count, join, strip, stripped, Narrow, words, size, markWord, ruleWord}
 
 pub count-join : (k s : Terms) → count (join k s) ≡ count k + count s
@@ -54,11 +55,11 @@ join-assoc noTerms g h = refl
 join-assoc (tree o m k s) g h = rw (join-assoc s g h)
 
 -- rows that begin with as many terms agree in these and in those behind
-pub record Parts (a a′ b b′ : Terms) : Type 0 where
+pub record RowParts (a a′ b b′ : Terms) : Type 0 where
   pub front : a ≡ a′
   pub back : b ≡ b′
 
-pub join-inj : (a a′ b b′ : Terms) → count a ≡ count a′ → join a b ≡ join a′ b′ → Parts a a′ b b′
+pub join-inj : (a a′ b b′ : Terms) → count a ≡ count a′ → join a b ≡ join a′ b′ → RowParts a a′ b b′
 unfolding join count
 join-inj noTerms noTerms b b′ c e = record { front = refl; back = e }
 join-inj noTerms (tree o m k s) b b′ c e = absurd (omega arith)
@@ -72,7 +73,7 @@ join-inj (tree o m k s) (tree o′ m′ k′ s′) b b′ c e =
     record { front = rw (x, y, z, q .front); back = q .back }
 
 -- "four a tree node"
-pub length-words : (f : Terms) → length (words f) ≡ 4 * size f
+pub length-words : (f : Terms) → length (words f) ≡ flatWords * size f
 unfolding words size
 length-words noTerms = refl
 length-words (tree o m k s) =
@@ -83,11 +84,11 @@ unfolding count size
 count-size noTerms = omega arith
 count-size (tree o m k s) = omega (arith, count-size s)
 
-pub four-words : (f : Terms) → 4 * count f ≤ length (words f)
-four-words f = omega (arith, count-size f, length-words f)
+pub row-words : (f : Terms) → flatWords * count f ≤ length (words f)
+row-words f = omega (arith, count-size f, length-words f)
 
 -- a term has words
-pub one-long : (t : Term) → 4 ≤ length (words (one t))
+pub one-long : (t : Term) → flatWords ≤ length (words (one t))
 unfolding words
 one-long t = omega arith
 

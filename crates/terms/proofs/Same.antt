@@ -1,7 +1,7 @@
 -- `same` says whether two rows are equal.
 -- Assumes nothing.
 use mathlib.Core.Bool.{true, _&&_, false≢true, and-eq-true-iff}
-use mathlib.Core.Path.{_≡_, refl, ap}
+use mathlib.Core.Path.{_≡_, refl}
 use mathlib.Core.Logic.{_↔_}
 use borrow.Author.Tests.{eq-eqb, eqb-true}
 use lib.Dec.{eqb}

@@ -8,32 +8,33 @@ use mathlib.Core.Logic.{_↔_}
 use native.Mathlib.Omega.{arith}
 use borrow.Author.Tests.{eq-eqb, eqb-true}
 use lib.Dec.{eqb}
-use lib.ListN.{length, getD}
+use lib.ListN.{length}
+use Rattle.model.specs.Limits.{flatWords}
 use Rattle.model.specs.Term.{Terms, noTerms, tree, Term, one, count, join, strip, stripped, sameOp}
-use Rattle.terms.specs.declared.Node.{Node}
+use Rattle.terms.specs.declared.TreeNode.{TreeNode}
 use Rattle.terms.specs.Place.{nodeOf, sameHead, TermAt, RowAt, Well, SameIs}
 use Rattle.terms.proofs.Rows.{strip-join, count-strip, join-inj, strip-one}
 use Rattle.terms.proofs.Place.{row-tree, row-room, row-fits, term-row}
 
 -- a node that agrees, by its words
-pub record Heads (n : Node) (o c : ℕ) : Type 0 where
+pub record Heads (n : TreeNode) (o c : ℕ) : Type 0 where
   pub op : n .op .0 ≡ o
   pub count : n .count ≡ c
 
-pub heads : (n : Node) (o c : ℕ) → sameHead n o c ≡ true → Heads n o c
+pub heads : (n : TreeNode) (o c : ℕ) → sameHead n o c ≡ true → Heads n o c
 heads n o c e =
     let p = and-eq-true-iff (sameOp (n .op .0) o) (eqb (n .count) c) .0 e in
     record { op = eqb-true _ _ (p .0); count = eqb-true _ _ (p .1) }
 
-pub heads-same : (n : Node) (o c : ℕ) → Heads n o c → sameHead n o c ≡ true
+pub heads-same : (n : TreeNode) (o c : ℕ) → Heads n o c → sameHead n o c ≡ true
 heads-same n o c h = rw (eq-eqb _ _ (h .op), eq-eqb _ _ (h .count))
 
 -- the nodes at two places
 abbrev pub sameAt : List ℕ → ℕ → ℕ → Bool
-sameAt ws i j = sameHead (nodeOf ws i) (getD ws j 0) (getD ws (j + 1) 0)
+sameAt ws i j = sameHead (nodeOf ws i) (nodeOf ws j .op .0) (nodeOf ws j .count)
 
 -- what is left of the terms t and u, n rows from i and from j on
-record Left (ws : List ℕ) (i j n : ℕ) (t u : Term) : Type 0 where
+record TwoRests (ws : List ℕ) (i j n : ℕ) (t u : Term) : Type 0 where
   f : Terms
   g : Terms
   isF : RowAt ws i n f
@@ -42,7 +43,7 @@ record Left (ws : List ℕ) (i j n : ℕ) (t u : Term) : Type 0 where
 
 -- where a walk over both terms is
 pub SameHere : List ℕ → ℕ → ℕ → ℕ → ℕ → ℕ → Type 0
-SameHere ws a b i j n = (e e′ : ℕ) (t u : Term) → TermAt ws a e t → TermAt ws b e′ u → Left ws i j n t u
+SameHere ws a b i j n = (e e′ : ℕ) (t u : Term) → TermAt ws a e t → TermAt ws b e′ u → TwoRests ws i j n t u
 
 pub same-first : (ws : List ℕ) (a b : ℕ) → SameHere ws a b a b 1
 unfolding SameHere strip
@@ -76,7 +77,7 @@ module _ (ws : List ℕ) (a b i j : ℕ) where
       let y = row-tree ws j n o′ m′ k′ s′ hg in
       let q : o ≡ o′ = cc in
       let r : strip k ≡ strip k′ = cc in
-      heads-same (nodeOf ws i) (getD ws j 0) (getD ws (j + 1) 0)
+      heads-same (nodeOf ws i) (nodeOf ws j .op .0) (nodeOf ws j .count)
       (record {
         op = x .op ∙ q ∙ sym (y .op);
         count = x .kids ∙ sym (count-strip k) ∙ ap count r ∙ count-strip k′ ∙ sym (y .kids);
@@ -89,9 +90,9 @@ module _ (ws : List ℕ) (a b i j : ℕ) where
       let x = h e e′ t u ht hu in
       false≢true (sym d ∙ agree n (x .f) (x .g) (x .isF) (x .isG) (x .same .1 p))
 
-  next : (n : ℕ) → Heads (nodeOf ws i) (getD ws j 0) (getD ws (j + 1) 0) → (t u : Term) (f g : Terms) → RowAt ws i (suc n) f
+  next : (n : ℕ) → Heads (nodeOf ws i) (nodeOf ws j .op .0) (nodeOf ws j .count) → (t u : Term) (f g : Terms) → RowAt ws i (suc n) f
       → RowAt ws j (suc n) g
-      → (strip f ≡ strip g) ↔ (stripped t ≡ stripped u) → Left ws (i + 4) (j + 4) (getD ws (i + 1) 0 + n) t u
+      → (strip f ≡ strip g) ↔ (stripped t ≡ stripped u) → TwoRests ws (i + flatWords) (j + flatWords) (nodeOf ws i .count + n) t u
   unfolding strip count
   next n q t u noTerms g hf hg w = absurd (omega (arith, hf .counted))
   next n q t u (tree o m k s) noTerms hf hg w = absurd (omega (arith, hg .counted))
@@ -99,8 +100,8 @@ module _ (ws : List ℕ) (a b i j : ℕ) where
       let x = row-tree ws i n o m k s hf in
       let y = row-tree ws j n o′ m′ k′ s′ hg in
       let z : o ≡ o′ = sym (x .op) ∙ q .op ∙ y .op in
-      let d : count k ≡ getD ws (i + 1) 0 = sym (x .kids) in
-      let d′ : count k′ ≡ getD ws (i + 1) 0 = sym (y .kids) ∙ sym (q .count) in
+      let d : count k ≡ nodeOf ws i .count = sym (x .kids) in
+      let d′ : count k′ ≡ nodeOf ws i .count = sym (y .kids) ∙ sym (q .count) in
       record {
         f = join k s;
         g = join k′ s′;
@@ -119,19 +120,19 @@ module _ (ws : List ℕ) (a b i j : ℕ) where
       }
 
   pub same-next : (n : ℕ) → 0 < n → sameAt ws i j ≡ true → SameHere ws a b i j n
-      → SameHere ws a b (i + 4) (j + 4) (n - 1 + getD ws (i + 1) 0)
+      → SameHere ws a b (i + flatWords) (j + flatWords) (n - 1 + nodeOf ws i .count)
   unfolding SameHere
   same-next zero l q h e e′ t u ht hu = absurd (omega arith)
   same-next (suc n) l q h e e′ t u ht hu =
       let x = h e e′ t u ht hu in
-      let m : suc n - 1 + getD ws (i + 1) 0 ≡ getD ws (i + 1) 0 + n = omega arith in
-      rw m (next n (heads (nodeOf ws i) (getD ws j 0) (getD ws (j + 1) 0) q) t u (x .f) (x .g) (x .isF) (x .isG) (x .same))
+      let m : suc n - 1 + nodeOf ws i .count ≡ nodeOf ws i .count + n = omega arith in
+      rw m (next n (heads (nodeOf ws i) (nodeOf ws j .op .0) (nodeOf ws j .count) q) t u (x .f) (x .g) (x .isF) (x .isG) (x .same))
 
   -- room for what is left, and for the next two nodes
   pub record Room (n : ℕ) : Type 0 where
-    pub few : 4 * n ≤ length ws
-    pub first : 0 < n → i + 4 ≤ length ws
-    pub second : 0 < n → j + 4 ≤ length ws
+    pub few : flatWords * n ≤ length ws
+    pub first : 0 < n → i + flatWords ≤ length ws
+    pub second : 0 < n → j + flatWords ≤ length ws
 
   pub same-room : (n : ℕ) → SameHere ws a b i j n → Well ws a → Well ws b → Room n
   unfolding SameHere

@@ -12,31 +12,31 @@ use borrow.Author.Tests.{le-leb, leb-true}
 use lib.Dec.{leb}
 use lib.ListN.{length, getD, drop, length-append, length-drop}
 use lib.Seq.{drop-cons}
-use Rattle.model.specs.Limits.{childLimit}
+use Rattle.model.specs.Limits.{childLimit, flatWords}
 use Rattle.model.specs.Term.{Mark, Terms, noTerms, tree, count, Narrow, markWord, ruleWord, words, markOf, Cut}
-use Rattle.terms.specs.declared.Node.{Node}
-use Rattle.terms.specs.declared.End.{End}
-use Rattle.terms.specs.declared.End.the-variants.{At, Broken}
+use Rattle.terms.specs.declared.TreeNode.{TreeNode}
+use Rattle.terms.specs.declared.TermEnd.{TermEnd}
+use Rattle.terms.specs.declared.TermEnd.the-variants.{At, Broken}
 use Rattle.terms.specs.Place.{nodeOf, isSome, okWords, okNode}
 use Rattle.terms.proofs.Rows.{count-join, words-join, narrow-parts}
 use Rattle.terms.proofs.Read.{mark-words, mark-of, CutIs, has-cut}
 
-abbrev pub endIf : Bool → End → End
+abbrev pub endIf : Bool → TermEnd → TermEnd
 endIf true e = e
 endIf false e = Broken
 
-abbrev pub stop : ℕ → ℕ → End
+abbrev pub stop : ℕ → ℕ → TermEnd
 stop zero at = At at
 stop (suc n) at = Broken
 
 -- the walk: from these words on, which stand at the place `at`, n terms are still to be read
-unfoldable pub scan : List ℕ → ℕ → ℕ → End
+unfoldable pub scan : List ℕ → ℕ → ℕ → TermEnd
 scan [] n at = stop n at
 scan (o ∷ []) n at = stop n at
 scan (o ∷ c ∷ []) n at = stop n at
 scan (o ∷ c ∷ m ∷ []) n at = stop n at
 scan (o ∷ c ∷ m ∷ r ∷ ws) zero at = At at
-scan (o ∷ c ∷ m ∷ r ∷ ws) (suc n) at = endIf (okWords c m r) (scan ws (c + n) (at + 4))
+scan (o ∷ c ∷ m ∷ r ∷ ws) (suc n) at = endIf (okWords c m r) (scan ws (c + n) (at + flatWords))
 
 pub scan-zero : (ws : List ℕ) (at : ℕ) → scan ws 0 at ≡ At at
 unfolding scan
@@ -56,7 +56,7 @@ scan-words (tree o m k s) h rest n at =
     (ap (scan rest n) (omega (arith, length-append (words k) (words s))))
 
 -- n terms stand at the front of these words, whose place is `at`, and end at e
-pub record Front (ws : List ℕ) (n at e : ℕ) : Type 0 where
+pub record RowFront (ws : List ℕ) (n at e : ℕ) : Type 0 where
   pub terms : Terms
   pub narrow : Narrow terms
   pub counted : count terms ≡ n
@@ -64,7 +64,7 @@ pub record Front (ws : List ℕ) (n at e : ℕ) : Type 0 where
   pub spelled : ws ≡ words terms ++ rest
   pub end : e ≡ at + length (words terms)
 
-at-stop : (ws : List ℕ) (n at e : ℕ) → stop n at ≡ At e → Front ws n at e
+at-stop : (ws : List ℕ) (n at e : ℕ) → stop n at ≡ At e → RowFront ws n at e
 unfolding words Narrow count
 at-stop ws zero at e p =
     let q : at ≡ e = cc in
@@ -82,9 +82,9 @@ marked m r none e i = let z : _≡_ {A = ℕ} 0 1 = cc in absurd (omega arith)
 marked m r (some k) e i = let w = mark-of m r k e in record { mark = k; first = w .0; second = w .1 }
 
 -- a node in front of c + n terms, of which the first c are its children
-node-front : (o c m r n at e : ℕ) (ws : List ℕ) → c ≤ childLimit → Marked m r → (f : Front ws (c + n) (at + 4) e) (p : Cut)
+node-front : (o c m r n at e : ℕ) (ws : List ℕ) → c ≤ childLimit → Marked m r → (f : RowFront ws (c + n) (at + flatWords) e) (p : Cut)
     → CutIs c (f .terms) p
-    → Front (o ∷ c ∷ m ∷ r ∷ ws) (suc n) at e
+    → RowFront (o ∷ c ∷ m ∷ r ∷ ws) (suc n) at e
 unfolding words Narrow count
 node-front o c m r n at e ws l k f p d =
     let h = narrow-parts (p .front) (p .back) (rw (d .joined) at (f .narrow)) in
@@ -98,8 +98,8 @@ node-front o c m r n at e ws l k f p d =
       end = omega (arith, f .end, ap length w);
     }
 
-at-node : (o c m r n at e : ℕ) (ws : List ℕ) (b : Bool) → okWords c m r ≡ b → endIf b (scan ws (c + n) (at + 4)) ≡ At e
-    → (scan ws (c + n) (at + 4) ≡ At e → Front ws (c + n) (at + 4) e) → Front (o ∷ c ∷ m ∷ r ∷ ws) (suc n) at e
+at-node : (o c m r n at e : ℕ) (ws : List ℕ) (b : Bool) → okWords c m r ≡ b → endIf b (scan ws (c + n) (at + flatWords)) ≡ At e
+    → (scan ws (c + n) (at + flatWords) ≡ At e → RowFront ws (c + n) (at + flatWords) e) → RowFront (o ∷ c ∷ m ∷ r ∷ ws) (suc n) at e
 at-node o c m r n at e ws false ok p rec = let z : _≡_ {A = ℕ} 0 1 = cc in absurd (omega arith)
 at-node o c m r n at e ws true ok p rec =
     let f = rec p in
@@ -107,7 +107,7 @@ at-node o c m r n at e ws true ok p rec =
     let both = and-eq-true-iff (leb c childLimit) (isSome (markOf m r)) .0 ok in
     node-front o c m r n at e ws (leb-true c childLimit (both .0)) (marked m r (markOf m r) refl (both .1)) f (h .parts) (h .is)
 
-pub scan-front : (ws : List ℕ) (n at e : ℕ) → scan ws n at ≡ At e → Front ws n at e
+pub scan-front : (ws : List ℕ) (n at e : ℕ) → scan ws n at ≡ At e → RowFront ws n at e
 unfolding scan
 scan-front [] n at e p = at-stop [] n at e p
 scan-front (o ∷ []) n at e p = at-stop (o ∷ []) n at e p
@@ -115,43 +115,43 @@ scan-front (o ∷ c ∷ []) n at e p = at-stop (o ∷ c ∷ []) n at e p
 scan-front (o ∷ c ∷ m ∷ []) n at e p = at-stop (o ∷ c ∷ m ∷ []) n at e p
 scan-front (o ∷ c ∷ m ∷ r ∷ ws) zero at e p = at-stop (o ∷ c ∷ m ∷ r ∷ ws) zero at e p
 scan-front (o ∷ c ∷ m ∷ r ∷ ws) (suc n) at e p =
-    at-node o c m r n at e ws (okWords c m r) refl p (scan-front ws (c + n) (at + 4) e)
+    at-node o c m r n at e ws (okWords c m r) refl p (scan-front ws (c + n) (at + flatWords) e)
 
 -- the words at a place, one by one
-pub drop1 : (ws : List ℕ) (p q : ℕ) → q ≡ p + 1 → p < length ws → drop p ws ≡ getD ws p 0 ∷ drop q ws
-drop1 ws p q e h = rw (e, add-one) (drop-cons ws p 0 h)
+pub drop-word : (ws : List ℕ) (p q : ℕ) → q ≡ p + 1 → p < length ws → drop p ws ≡ getD ws p 0 ∷ drop q ws
+drop-word ws p q e h = rw (e, add-one) (drop-cons ws p 0 h)
 
-pub drop4 : (ws : List ℕ) (p : ℕ) → p + 4 ≤ length ws
-    → drop p ws ≡ getD ws p 0 ∷ getD ws (p + 1) 0 ∷ getD ws (p + 2) 0 ∷ getD ws (p + 3) 0 ∷ drop (p + 4) ws
-drop4 ws p h =
+pub drop-node : (ws : List ℕ) (p : ℕ) → p + flatWords ≤ length ws
+    → drop p ws ≡ nodeOf ws p .op .0 ∷ nodeOf ws p .count ∷ nodeOf ws p .mark ∷ nodeOf ws p .rule .0 ∷ drop (p + flatWords) ws
+drop-node ws p h =
     rw (
-      drop1 ws p (p + 1) refl (omega arith),
-      drop1 ws (p + 1) (p + 2) (omega arith) (omega arith),
-      drop1 ws (p + 2) (p + 3) (omega arith) (omega arith),
-      drop1 ws (p + 3) (p + 4) (omega arith) (omega arith),
+      drop-word ws p (p + 1) refl (omega arith),
+      drop-word ws (p + 1) (p + 2) (omega arith) (omega arith),
+      drop-word ws (p + 2) (p + 3) (omega arith) (omega arith),
+      drop-word ws (p + 3) (p + flatWords) (omega arith) (omega arith),
     )
 
 -- one turn of the walk, in the code's terms: the node that was read, and what was found of it
-scan-step : (ws : List ℕ) (p n : ℕ) → p + 4 ≤ length ws → 0 < n
-    → scan (drop p ws) n p ≡ endIf (okNode (nodeOf ws p)) (scan (drop (p + 4) ws) (n - 1 + getD ws (p + 1) 0) (p + 4))
+scan-step : (ws : List ℕ) (p n : ℕ) → p + flatWords ≤ length ws → 0 < n
+    → scan (drop p ws) n p ≡ endIf (okNode (nodeOf ws p)) (scan (drop (p + flatWords) ws) (n - 1 + nodeOf ws p .count) (p + flatWords))
 unfolding scan
 scan-step ws p zero h k = absurd (omega arith)
 scan-step ws p (suc n) h k =
-    let e : getD ws (p + 1) 0 + n ≡ suc n - 1 + getD ws (p + 1) 0 = omega arith in
-    rw (drop4 ws p h, e)
+    let e : nodeOf ws p .count + n ≡ suc n - 1 + nodeOf ws p .count = omega arith in
+    rw (drop-node ws p h, e)
 
-pub turn : (ws : List ℕ) (p n : ℕ) (d : Node) (b : Bool) → p + 4 ≤ length ws → 0 < n → d ≡ nodeOf ws p → b ≡ okNode d
-    → scan (drop p ws) n p ≡ endIf b (scan (drop (p + 4) ws) (n - 1 + d .count) (p + 4))
+pub turn : (ws : List ℕ) (p n : ℕ) (d : TreeNode) (b : Bool) → p + flatWords ≤ length ws → 0 < n → d ≡ nodeOf ws p → b ≡ okNode d
+    → scan (drop p ws) n p ≡ endIf b (scan (drop (p + flatWords) ws) (n - 1 + d .count) (p + flatWords))
 turn ws p n d b h k e f = rw (f, e) (scan-step ws p n h k)
 
 -- a node that is right has at most 8 children
-pub ok-count : (d : Node) → okNode d ≡ true → d .count ≤ childLimit
+pub ok-count : (d : TreeNode) → okNode d ≡ true → d .count ≤ childLimit
 ok-count d e =
     leb-true (d .count) childLimit
     (and-eq-true-iff (leb (d .count) childLimit) (isSome (markOf (d .mark) (d .rule .0))) .0 e .0)
 
 -- no node where there is no room for one
-short : (l : List ℕ) (n at : ℕ) → length l < 4 → 0 < n → scan l n at ≡ Broken
+short : (l : List ℕ) (n at : ℕ) → length l < flatWords → 0 < n → scan l n at ≡ Broken
 unfolding scan
 short l zero at h k = absurd (omega arith)
 short [] (suc n) at h k = refl
@@ -160,7 +160,7 @@ short (o ∷ c ∷ []) (suc n) at h k = refl
 short (o ∷ c ∷ m ∷ []) (suc n) at h k = refl
 short (o ∷ c ∷ m ∷ r ∷ ws) (suc n) at h k = absurd (omega arith)
 
-pub scan-short : (ws : List ℕ) (p n : ℕ) → length ws - p < 4 → 0 < n → scan (drop p ws) n p ≡ Broken
+pub scan-short : (ws : List ℕ) (p n : ℕ) → length ws - p < flatWords → 0 < n → scan (drop p ws) n p ≡ Broken
 scan-short ws p n h k = short (drop p ws) n p (omega (arith, length-drop p ws)) k
 
 -- where a walk from `at` is: n terms are still to be read from pos on, and it finds what the whole walk finds

@@ -10,12 +10,12 @@ use lib.Seq.{slice}
 use lib.Dec.{leb, eqb}
 use Rattle.model.specs.Limits.{childLimit}
 use Rattle.model.specs.Term.{Mark, Terms, Term, count, one, stripped, Narrow, words, markOf, sameOp}
-use Rattle.terms.specs.declared.Node.{Node}
-use Rattle.terms.specs.declared.End.{End}
-use Rattle.terms.specs.declared.End.the-variants.{At, Broken}
+use Rattle.terms.specs.declared.TreeNode.{TreeNode}
+use Rattle.terms.specs.declared.TermEnd.{TermEnd}
+use Rattle.terms.specs.declared.TermEnd.the-variants.{At, Broken}
 
 -- the four words at a place
-abbrev pub nodeOf : List ℕ → ℕ → Node
+abbrev pub nodeOf : List ℕ → ℕ → TreeNode
 nodeOf ws at = record {
   op = record { 0 = getD ws at 0 };
   count = getD ws (at + 1) 0;
@@ -31,11 +31,11 @@ isSome (some m) = true
 abbrev pub okWords : ℕ → ℕ → ℕ → Bool
 okWords c m r = leb c childLimit && isSome (markOf m r)
 
-abbrev pub okNode : Node → Bool
+abbrev pub okNode : TreeNode → Bool
 okNode n = okWords (n .count) (n .mark) (n .rule .0)
 
 -- "operator and count agree"
-abbrev pub sameHead : Node → ℕ → ℕ → Bool
+abbrev pub sameHead : TreeNode → ℕ → ℕ → Bool
 sameHead n o c = sameOp (n .op .0) o && eqb (n .count) c
 
 -- the words from `at` up to e are those of the one term t
@@ -62,7 +62,7 @@ pub record EndsAt (ws : List ℕ) (at e : ℕ) : Type 0 where
   pub is : TermAt ws at e term
 
 -- where the term at `at` ends: at e, or nowhere, since there is none
-abbrev pub EndIs : List ℕ → ℕ → End → Type 0
+abbrev pub EndIs : List ℕ → ℕ → TermEnd → Type 0
 EndIs ws at (At e) = EndsAt ws at e
 EndIs ws at Broken = (e : ℕ) (t : Term) → TermAt ws at e t → ⊥
 

@@ -2,10 +2,10 @@
 -- Assumes nothing.
 use mathlib.Core.Option.{Option, none, some}
 use Rattle.model.specs.Term.{Terms, count}
-use Rattle.terms.specs.declared.Whole.{Whole}
-use Rattle.terms.specs.declared.Whole.the-variants.{Count, Broken}
+use Rattle.terms.specs.declared.WholeTerms.{WholeTerms}
+use Rattle.terms.specs.declared.WholeTerms.the-variants.{Count, Broken}
 
 -- how many terms were read, if they were
-abbrev pub wholeOf : Option Terms → Whole
+abbrev pub wholeOf : Option Terms → WholeTerms
 wholeOf none = Broken
 wholeOf (some f) = Count (count f)

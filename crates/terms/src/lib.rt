@@ -1,6 +1,7 @@
 // Flat terms: four words a node in preorder, which are its operator, child count, mark and rule. Terms can be very deep, so
 // they are walked flat, by a pending count: how many terms are still to be read.
 use model::CHILD_LIMIT;
+use model::FLAT_WORDS;
 use model::OpNo;
 use model::RuleNo;
 use model::same_op;
@@ -8,12 +9,13 @@ use model::wide;
 ghost use mathlib.Core.Path.{_≡_};
 ghost use Prim.Native.Nat.{_+_, _≤_};
 ghost use lib.ListN.{length};
+ghost use Rattle.model.specs.Limits.{flatWords};
 ghost use Rattle.model.specs.Term.{read};
 ghost use Rattle.terms.specs.Place.{nodeOf, okNode, sameHead, Well, EndIs, EndsAt, SameIs};
 ghost use Rattle.terms.specs.Whole.{wholeOf};
 
 // A node's four words.
-pub struct Node {
+pub struct TreeNode {
     pub op: OpNo,
     pub count: u16,
     pub mark: u16,
@@ -21,23 +23,23 @@ pub struct Node {
 }
 
 // Where a term ends.
-pub enum End {
+enum TermEnd {
     At(usize),
     Broken,
 }
 
 // How many terms words are.
-pub enum Whole {
+pub enum WholeTerms {
     Count(usize),
     Broken,
 }
 
 // The one place where a node's words are read.
-pub fn node_at(words: &[u16], at: usize) -> Node
-    requires { ⌜ at + 4 ≤ length (now words) ⌝ }
+pub fn node_at(words: &[u16], at: usize) -> TreeNode
+    requires { ⌜ at + flatWords ≤ length (now words) ⌝ }
     ensures { λ r. ⌜ r ≡ nodeOf (now (words .entry)) at ⌝ }
 {
-    Node {
+    TreeNode {
         op: OpNo(words[at]),
         count: words[at + 1],
         mark: words[at + 2],
@@ -46,7 +48,7 @@ pub fn node_at(words: &[u16], at: usize) -> Node
 }
 
 // Whether a node's count and mark are in their sets, and no rule stands at an unmarked one.
-pub fn node_ok(n: Node) -> bool
+fn node_ok(n: TreeNode) -> bool
     ensures { λ r. ⌜ r ≡ okNode n ⌝ }
 {
     if n.count > CHILD_LIMIT {
@@ -61,7 +63,7 @@ pub fn node_ok(n: Node) -> bool
 }
 
 // Whether a node has this operator and this count.
-pub fn same_head(n: Node, op: OpNo, count: u16) -> bool
+pub fn same_head(n: TreeNode, op: OpNo, count: u16) -> bool
     ensures { λ r. ⌜ r ≡ sameHead n (op .0) count ⌝ }
 {
     if !same_op(n.op, op) {
@@ -71,38 +73,38 @@ pub fn same_head(n: Node, op: OpNo, count: u16) -> bool
 }
 
 // Where the term at `at` ends, on any words: each node read takes one from the terms still to be read, and adds its children.
-pub fn subterm_end(words: &[u16], at: usize) -> End
+fn subterm_end(words: &[u16], at: usize) -> TermEnd
     ensures { λ r. ⌜ EndIs (now (words .entry)) at r ⌝ }
 {
     let len = words.len();
     if len < at {
-        return End::Broken;
+        return TermEnd::Broken;
     }
     let mut pos = at;
     let mut pending: usize = 1;
     while 0 < pending {
-        if len - pos < 4 {
-            return End::Broken;
+        if len - pos < FLAT_WORDS {
+            return TermEnd::Broken;
         }
         let n = node_at(words, pos);
         if !node_ok(n) {
-            return End::Broken;
+            return TermEnd::Broken;
         }
         pending = pending - 1 + wide(n.count);
-        pos += 4;
+        pos += FLAT_WORDS;
     }
-    End::At(pos)
+    TermEnd::At(pos)
 }
 
-// Where a term that is known to be there ends.
+// Where a term that is known to be there ends. So the second arm is never reached.
 pub fn end_of(words: &[u16], at: usize) -> usize
     requires { ⌜ Well (now words) at ⌝ }
     ensures { λ r. ⌜ EndsAt (now (words .entry)) at r ⌝ }
 {
     let found = subterm_end(words, at);
     match found {
-        End::At(e) => e,
-        End::Broken => at,
+        TermEnd::At(e) => e,
+        TermEnd::Broken => at,
     }
 }
 
@@ -122,14 +124,14 @@ pub fn same_term(words: &[u16], a: usize, b: usize) -> bool
             return false;
         }
         pending = pending - 1 + wide(x.count);
-        i += 4;
-        j += 4;
+        i += FLAT_WORDS;
+        j += FLAT_WORDS;
     }
     true
 }
 
 // How many terms the words are, one behind the other, if they are a whole number.
-pub fn whole_terms(words: &[u16]) -> Whole
+pub fn whole_terms(words: &[u16]) -> WholeTerms
     ensures { λ r. ⌜ r ≡ wholeOf (read (now (words .entry))) ⌝ }
 {
     let len = words.len();
@@ -137,11 +139,11 @@ pub fn whole_terms(words: &[u16]) -> Whole
     let mut n: usize = 0;
     while pos < len {
         let found = subterm_end(words, pos);
-        let End::At(e) = found else {
-            return Whole::Broken;
+        let TermEnd::At(e) = found else {
+            return WholeTerms::Broken;
         };
         pos = e;
         n += 1;
     }
-    Whole::Count(n)
+    WholeTerms::Count(n)
 }

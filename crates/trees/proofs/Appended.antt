@@ -2,7 +2,7 @@
 use Prim.Native.Nat.{ℕ, _+_, _-_, _*_, _/_, _≤_, _<_}
 use native.Mathlib.Omega.{arith}
 use mathlib.Core.Path.{_≡_, refl, sym, ap, ap₂, _∙_}
-use mathlib.Core.List.{List, [], _∷_, _++_, append-assoc}
+use mathlib.Core.List.{List, _++_, append-assoc}
 use lib.ListN.{length, length-append}
 use Rattle.model.specs.declared.Direction.{Direction}
 use Rattle.model.specs.declared.Direction.the-variants.{Forward, Backward}
@@ -15,7 +15,7 @@ use Rattle.entries.specs.Nodes.{nodesOf, NodesWhole, childrenIn}
 use Rattle.trees.specs.Area.{splice, part, bare, rootIn, directionOf}
 use Rattle.trees.proofs.Area.{length-splice, length-part, part-before, splice-more, splice-front}
 use Rattle.trees.proofs.Bare.{length-bare}
-use Rattle.trees.proofs.Planted.{marked-spelled, spelled, long}
+use Rattle.trees.proofs.Planted.{marked-spelled, term-spelled, term-long}
 
 -- four writings one after the other: u, a tree, its root again, and what stood before the first of them in the area
 module _ (a : List ℕ) (end : ℕ) (u root kids new : List ℕ) (post : ℕ) (within : post ≤ end) (same : length new ≡ length root)
@@ -78,7 +78,7 @@ module _ (nodes : List ℕ) (good : NodesWhole nodes) (n : ℕ) (here : n < leng
       let kids = words (row (termOf (nodesOf nodes)) (childrenIn nodes n)) in
       let new = rootIn nodes n mark rule in
       let tree = length-append root kids in
-      let size = long nodes good n here in
+      let size = term-long nodes good n here in
       let whole : start + place - start ≡ place = omega arith in
       let behind-part : end - (end - post) ≡ post = omega arith in
       let at : end + place ≡ end + length before = omega (arith, long-before) in
@@ -87,7 +87,7 @@ module _ (nodes : List ℕ) (good : NodesWhole nodes) (n : ℕ) (here : n < leng
       let two-is : a2 ≡ splice (splice a end before) (end + length before) (root ++ kids) =
       e2
       ∙ ap₂ (λ (l : List ℕ) (p : ℕ). splice l p (words (one (termOf (nodesOf nodes) n)))) one-is at
-      ∙ ap (splice (splice a end before) (end + length before)) (spelled nodes good n here) in
+      ∙ ap (splice (splice a end before) (end + length before)) (term-spelled nodes good n here) in
       let written = splice (splice (splice a end before) (end + length before) (root ++ kids)) (end + length before) new in
       let three : a3 ≡ written = e3 ∙ ap₂ (λ (l : List ℕ) (p : ℕ). splice l p new) two-is at in
       let marked-is : new ++ kids ≡ words (markedTerm (nodesOf nodes) (marked d rule) n) =

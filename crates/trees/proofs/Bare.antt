@@ -6,7 +6,7 @@ use mathlib.Core.List.{List, [], _∷_, _++_}
 use lib.ListN.{length, getD, take, drop}
 use lib.Seq.{length-take-le}
 use Rattle.model.specs.Limits.{flatWords}
-use Rattle.model.specs.Term.{Terms, noTerms, tree, one, count, strip, words}
+use Rattle.model.specs.Term.{Terms, noTerms, tree, one, strip, words}
 use Rattle.model.specs.Node.{Node, row, termOf}
 use Rattle.terms.proofs.Rows.{count-strip, length-words}
 use Rattle.flat.proofs.Rows.{unmarked-strip}

@@ -1,7 +1,7 @@
 -- Loops over the area: nodes copied without their marks, and words set to zero.
 use Prim.Native.Nat.{ℕ, _+_, _-_, _≤_, _<_}
 use native.Mathlib.Omega.{arith}
-use mathlib.Core.Path.{_≡_, refl, sym, ap, ap₂, _∙_}
+use mathlib.Core.Path.{_≡_, sym, ap, ap₂, _∙_}
 use mathlib.Core.List.{List, [], _∷_, _++_}
 use lib.ListN.{length, getD, set, take, replicate, length-replicate, replicate-append-replicate}
 use Rattle.model.specs.Limits.{flatWords}

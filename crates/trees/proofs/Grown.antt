@@ -1,8 +1,8 @@
 -- The loop that writes a node's tree, over a table of nodes: the root is written, and the children's trees one after the other.
 use Prim.Native.Nat.{ℕ, _+_, _*_, _/_, _≤_, _<_}
 use native.Mathlib.Omega.{arith}
-use mathlib.Core.Path.{_≡_, sym, ap, ap₂, subst, _∙_}
-use mathlib.Core.List.{List, [], _∷_, _++_}
+use mathlib.Core.Path.{_≡_, sym, ap, subst, _∙_}
+use mathlib.Core.List.{List, _∷_}
 use lib.ListN.{length}
 use Rattle.model.specs.Limits.{flatWords}
 use Rattle.model.specs.Tables.{nodeWords, childrenAt}
@@ -13,7 +13,7 @@ use Rattle.entries.specs.Nodes.{nodesOf, NodesWhole, countIn, childIn, children
 use Rattle.entries.proofs.Children.{left, left-all, left-next, left-none}
 use Rattle.trees.specs.Area.{splice, rootIn}
 use Rattle.trees.proofs.Area.{splice-more}
-use Rattle.trees.proofs.Planted.{Planted, planted-none, planted-length, planted-room, planted-more, planted-all, spelled, long}
+use Rattle.trees.proofs.Planted.{Planted, planted-none, planted-length, planted-room, planted-more, planted-all, term-spelled, term-long}
 
 -- where a node's children stand in the table, and those from the i-th on
 abbrev base : ℕ → ℕ
@@ -37,7 +37,7 @@ grown-none nodes n old at =
 module _ {nodes : List ℕ} (good : NodesWhole nodes) {n : ℕ} (here : n < length nodes / nodeWords) {old : List ℕ} {at : ℕ}
     (fits : at + flatWords * sizeOf (nodesOf nodes) n ≤ length old) {new : List ℕ} {end i : ℕ} (g : Grown nodes n old at new end i) where
   room : at + flatWords + length (words (row (termOf (nodesOf nodes)) (childrenIn nodes n))) ≤ length old
-  room = omega (arith, long nodes good n here)
+  room = omega (arith, term-long nodes good n here)
 
   -- the next child is the first of those left
   next : {k : ℕ} → i < countIn nodes n → k ≡ childIn nodes n i →
@@ -65,9 +65,9 @@ module _ {nodes : List ℕ} (good : NodesWhole nodes) {n : ℕ} (here : n < leng
       let p = planted-all room
       (subst (λ (l : List ℕ). Planted (nodesOf nodes) (childrenIn nodes n) l old (at + flatWords) new end)
       (left-none nodes (base n) (countIn nodes n) i h) (g .planted)) in (
-        omega (arith, p .1, long nodes good n here),
+        omega (arith, p .1, term-long nodes good n here),
         p .0
             ∙ ap (λ (l : List ℕ). splice l (at + flatWords) kids) e
-            ∙ splice-more a at (rootIn nodes n 0 0) kids (omega (arith, long nodes good n here))
-            ∙ ap (splice a at) (sym (spelled nodes good n here)),
+            ∙ splice-more a at (rootIn nodes n 0 0) kids (omega (arith, term-long nodes good n here))
+            ∙ ap (splice a at) (sym (term-spelled nodes good n here)),
       )

@@ -1,5 +1,5 @@
 -- Writing a node's tree: its root's words, then its children's trees one behind the other.
-use Prim.Native.Nat.{ℕ, zero, suc, _+_, _*_, _/_, _≤_, _<_}
+use Prim.Native.Nat.{ℕ, suc, _+_, _*_, _/_, _≤_, _<_}
 use native.Mathlib.Omega.{arith}
 use native.Mathlib.Nat.{add-zero}
 use mathlib.Core.Path.{_≡_, refl, sym, ap, ap₂, _∙_}
@@ -7,7 +7,7 @@ use mathlib.Core.List.{List, [], _∷_, _++_, append-assoc, append-nil}
 use lib.ListN.{length, length-append, getD}
 use Rattle.model.specs.Limits.{flatWords}
 use Rattle.model.specs.Tables.{nodeWords, childrenAt}
-use Rattle.model.specs.Term.{Mark, unmarked, Terms, noTerms, tree, Term, one, count, words, size, markWord, ruleWord}
+use Rattle.model.specs.Term.{Mark, unmarked, Terms, noTerms, tree, Term, one, count, words, markWord, ruleWord}
 use Rattle.model.specs.Node.{Node, opOf, kidsOf, row, termOf}
 use Rattle.model.specs.Flat.{sum, sizeOf, markedTerm}
 use Rattle.terms.proofs.Rows.{put-words, length-words as length-spelled}
@@ -15,7 +15,7 @@ use Rattle.entries.specs.Nodes.{nodesOf, NodesWhole, countIn, childrenIn}
 use Rattle.entries.proofs.Nodes.{children-in, operator-in}
 use Rattle.entries.proofs.Children.{length-words}
 use Rattle.flat.specs.Nodes.{AcceptedNodes}
-use Rattle.flat.proofs.NodeTerms.{row-count, term-op, term-size, terms-size, term-is}
+use Rattle.flat.proofs.NodeTerms.{row-count, term-size, terms-size, term-is}
 use Rattle.flat.proofs.Tables.{table-nodes}
 use Rattle.trees.specs.Area.{splice, rootIn}
 use Rattle.trees.proofs.Area.{length-splice, splice-none, splice-more}
@@ -107,21 +107,21 @@ module _ (nodes : List ℕ) (good : NodesWhole nodes) (n : ℕ) (here : n < leng
       ap₂ (λ (o : ℕ) (t : Terms). words (tree o m t noTerms)) (operator-in (length nodes / nodeWords) nodes n here) below
       ∙ ap₂ (λ (x : ℕ) (l : List ℕ). getD nodes (n * nodeWords) 0 ∷ x ∷ markWord m ∷ ruleWord m ∷ l) c (append-nil (words kids))
 
-  pub spelled : words (one (termOf ns n)) ≡ rootIn nodes n 0 0 ++ words kids
-  spelled =
+  pub term-spelled : words (one (termOf ns n)) ≡ rootIn nodes n 0 0 ++ words kids
+  term-spelled =
       ap (λ (t : Term). words (one t)) (term-is ns accepted n)
       ∙ ap (λ (k : Terms). words (tree (opOf ns n) unmarked k noTerms))
       (sym (ap (λ (t : Term). t .kids) (term-is ns accepted n)))
       ∙ marked-spelled unmarked
 
   -- so the tree has the root and its children's trees
-  pub long : flatWords * sizeOf ns n ≡ flatWords + length (words kids)
-  long =
+  pub term-long : flatWords * sizeOf ns n ≡ flatWords + length (words kids)
+  term-long =
       sym (length-term ns n)
-      ∙ ap length spelled
+      ∙ ap length term-spelled
       ∙ length-append (rootIn nodes n 0 0) (words kids)
 
   pub size-is : sizeOf ns n ≡ suc (sum (sizeOf ns) (childrenIn nodes n))
   size-is =
       let k = childrenIn nodes n in
-      omega (arith, long, length-spelled (row (termOf ns) k), terms-size ns k)
+      omega (arith, term-long, length-spelled (row (termOf ns) k), terms-size ns k)

@@ -29,7 +29,7 @@ ghost use Rattle.trees.specs.Area.{splice, part, WholeNodes, bare, rootI
 ghost use Rattle.trees.specs.Sizes.{heldNodes, tableBound, filledSizes};
 
 // The first number of nodes whose words are past the limit: what is above is held here.
-const NODE_CAP: usize = WORD_LIMIT / FLAT_WORDS + 1;
+pub const NODE_CAP: usize = WORD_LIMIT / FLAT_WORDS + 1;
 
 // A subterm of the last term: how many words stand before it and behind it, and where that term ends.
 pub struct Spot {

@@ -8,7 +8,7 @@ use Rattle.model.specs.declared.Direction.the-variants.{Forward, Backward}
 use Rattle.model.specs.Term.{Term, one, markWord, ruleWord}
 use Rattle.model.specs.Rule.{listed}
 use Rattle.model.specs.Step.{fitsRule}
-use Rattle.terms.specs.declared.Node.{Node}
+use Rattle.terms.specs.declared.TreeNode.{TreeNode}
 use Rattle.terms.specs.Place.{nodeOf, TermAt}
 use Rattle.terms.proofs.Place.{well-room}
 use Rattle.checker.proofs.Allow.{term-tree, allowed-marked, allowed-none}
@@ -25,11 +25,11 @@ rule-at-requires-2 : tie.Need-rule-at-requires-2
 rule-at-requires-2 c κs = search needs
 
 -- the node's mark and rule are those of the term
-mark : (n : Node) (ws : List ℕ) (j e : ℕ) (u : Term) → n ≡ nodeOf ws j → TermAt ws j e u → n .mark ≡ markWord (u .mark)
-mark n ws j e u q h = ap (λ (x : Node). x .mark) q ∙ term-tree ws j e u h .mark
+mark : (n : TreeNode) (ws : List ℕ) (j e : ℕ) (u : Term) → n ≡ nodeOf ws j → TermAt ws j e u → n .mark ≡ markWord (u .mark)
+mark n ws j e u q h = ap (λ (x : TreeNode). x .mark) q ∙ term-tree ws j e u h .mark
 
-rule : (n : Node) (ws : List ℕ) (j e : ℕ) (u : Term) → n ≡ nodeOf ws j → TermAt ws j e u → n .rule .0 ≡ ruleWord (u .mark)
-rule n ws j e u q h = ap (λ (x : Node). x .rule .0) q ∙ term-tree ws j e u h .rule
+rule : (n : TreeNode) (ws : List ℕ) (j e : ℕ) (u : Term) → n ≡ nodeOf ws j → TermAt ws j e u → n .rule .0 ≡ ruleWord (u .mark)
+rule n ws j e u q h = ap (λ (x : TreeNode). x .rule .0) q ∙ term-tree ws j e u h .rule
 
 returns : tie.Need-returns
 returns c = λ rs are e e′ t u ht hu.

@@ -15,6 +15,10 @@ use Rattle.checker.proofs.terms_verdict.Tie as tie
 returns : tie.Need-returns
 returns c = λ rs are f h. let a = c .before .before .before .args in terms-many rs (a .words .now) (a .n) f h (omega arith)
 
+-- the entry, from where the first term was looked at
+abbrev at-start : tie.After-marked → tie.Start
+at-start c = c .before .before .before .before
+
 -- the first of some terms is a row of one
 first : (ws : List ℕ) (n : ℕ) → 0 < n → HasRow ws 0 n → HasRow ws 0 1
 first ws zero l r = absurd (omega arith)
@@ -27,7 +31,7 @@ marked-requires c κs = let s = c .before .before .before in first (s .args .wor
 
 returns-2 : tie.Need-returns-2
 returns-2 c = λ rs are f h.
-    let s = c .before .before .before .before .before in
+    let s = at-start (c .before) in
     terms-marked rs (s .args .words .now) (s .args .n) f h (s .pre .1 .1) (omega arith) (subst (MarkedIs (s .args .words .now) 0 1) (c .if2 .taken) (c .before .marked .ensures))
 
 later-terms-requires : tie.Need-later-terms-requires
@@ -35,7 +39,7 @@ later-terms-requires c κs = search needs
 
 returns-3 : tie.Need-returns-3
 returns-3 c = λ rs are f h.
-    let s = c .before .before .before .before .before .before in
+    let s = at-start (c .before .before) in
     c .later-terms .ensures rs are f h
     ∙ terms-later rs (s .args .words .now) (s .args .n) f h (s .pre .1 .1) (omega arith) (subst (MarkedIs (s .args .words .now) 0 1) (c .before .if2 .left) (c .before .before .marked .ensures))
 

@@ -6,7 +6,7 @@ use mathlib.Core.List.{List}
 use mathlib.Core.Path.{_≡_, sym, ap, ap₂, _∙_}
 use Rattle.model.specs.declared.Connection.{Connection}
 use Rattle.model.specs.Forest.{root, sumPairs}
-use Rattle.model.specs.Tables.{nodeWords, wordsFrom}
+use Rattle.model.specs.Tables.{nodeWords, childrenAt, wordsFrom}
 use Rattle.entries.specs.Nodes.{childIn, childrenIn, countIn}
 use Rattle.forest.specs.Rows.{Climbs}
 use Rattle.costs.specs.Costs.{held, nodesIn, weigh}
@@ -18,7 +18,7 @@ abbrev Inv-loop : tie.InvT-loop
 Inv-loop nodes rows a b n sum₀ i₀ sum i =
     (n ≡ countIn nodes (a .0))
     × ((cs : List Connection) → Climbs cs (nodesIn nodes) rows →
-    Sums (weigh rows cs) nodes (a .0 * nodeWords + 2) (b .0 * nodeWords + 2) (countIn nodes (a .0)) i sum)
+    Sums (weigh rows cs) nodes (a .0 * nodeWords + childrenAt) (b .0 * nodeWords + childrenAt) (countIn nodes (a .0)) i sum)
 
 abbrev μ-loop : tie.MeasureT-loop
 μ-loop nodes rows a b n sum₀ i₀ sum i = n - i
@@ -27,7 +27,7 @@ abbrev μ-loop : tie.MeasureT-loop
 sums : (c : tie.At-loop Inv-loop μ-loop) →
     let s = c .before .before .before in
     let a = s .args in
-    Sums (weigh (a .rows .now) (s .pre .conns)) (a .nodes .now) (a .a .0 * nodeWords + 2) (a .b .0 * nodeWords + 2) (countIn (a .nodes .now) (a .a .0))
+    Sums (weigh (a .rows .now) (s .pre .conns)) (a .nodes .now) (a .a .0 * nodeWords + childrenAt) (a .b .0 * nodeWords + childrenAt) (countIn (a .nodes .now) (a .a .0))
     (c .loop .i) (c .loop .sum)
 sums c = let p = c .before .before .before .pre in c .loop .inv .1 (p .conns) (p .charged .climbs)
 
@@ -109,7 +109,7 @@ returns c = λ cs k.
     let s = l .before .before .before in
     let a = s .args in
     sums-done (l .loop .inv .1 cs k) (omega arith)
-    ∙ ap (λ (x : ℕ). held (sumPairs (weigh (a .rows .now) cs) (childrenIn (a .nodes .now) (a .a .0)) (wordsFrom (a .nodes .now) (a .b .0 * nodeWords + 2) x)))
+    ∙ ap (λ (x : ℕ). held (sumPairs (weigh (a .rows .now) cs) (childrenIn (a .nodes .now) (a .a .0)) (wordsFrom (a .nodes .now) (a .b .0 * nodeWords + childrenAt) x)))
     (s .pre .even)
 
 pub children-cost-spec : {M : Type 1} → statement M

@@ -2,7 +2,7 @@
 use native.Mathlib.Omega.{arith}
 use Prim.Native.Nat.{ℕ, _+_, _<_, _≤_}
 use mathlib.Core.List.{List}
-use mathlib.Core.Path.{_≡_, ap, _∙_}
+use mathlib.Core.Path.{ap, _∙_}
 use Rattle.model.specs.declared.Connection.{Connection}
 use Rattle.model.specs.Limits.{nodeLimit}
 use Rattle.forest.specs.Rows.{Climbs, depthIn}

@@ -2,7 +2,7 @@
 use borrow.Author.Needs.{needs}
 use native.Mathlib.Omega.{arith}
 use Prim.Native.Nat.{_/_}
-use mathlib.Core.Path.{_≡_, ap, _∙_}
+use mathlib.Core.Path.{_∙_}
 use lib.ListN.{length}
 use Rattle.entries.specs.Nodes.{nodesOf}
 use Rattle.model.specs.Tables.{connectionWords}

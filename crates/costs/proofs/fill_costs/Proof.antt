@@ -1,12 +1,11 @@
 -- `costs::fill_costs` meets its contract: the costs of the connections passed are written, each from those before it.
 use native.Mathlib.Omega.{arith}
-use Prim.Native.Nat.{ℕ, _*_, _+_, _-_, _/_, _<_, _≤_}
+use Prim.Native.Nat.{ℕ, _*_, _+_, _-_, _/_, _≤_}
 use mathlib.Core.List.{List}
-use mathlib.Core.Path.{_≡_, sym, ap, _∙_}
+use mathlib.Core.Path.{_≡_, ap, _∙_}
 use lib.ListN.{length, set}
 use Rattle.model.specs.declared.Connection.{Connection}
 use Rattle.model.specs.Forest.{cur, nxt, costBy}
-use Rattle.entries.specs.Connections.{connectionIn}
 use Rattle.entries.specs.Nodes.{nodesOf}
 use Rattle.model.specs.Tables.{connectionWords}
 use Rattle.forest.specs.Rows.{costWord, listed, rowWords}

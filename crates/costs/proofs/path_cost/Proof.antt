@@ -1,12 +1,11 @@
 -- `costs::path_cost` meets its contract: a path costs what its two climbs cost.
 use borrow.Author.Needs.{needs}
 use native.Mathlib.Omega.{arith}
-use Prim.Native.Nat.{ℕ, _+_, _<_, _≤_}
+use Prim.Native.Nat.{ℕ, _<_}
 use mathlib.Core.List.{List}
-use mathlib.Core.Path.{_≡_, sym, ap, _∙_}
+use mathlib.Core.Path.{sym, _∙_}
 use Rattle.model.specs.declared.Connection.{Connection}
 use Rattle.forest.specs.Rows.{Climbs}
-use Rattle.costs.specs.Costs.{costCap, held}
 use Rattle.costs.proofs.Climbs.{Two, never-nowhere, two-at}
 use Rattle.costs.proofs.path_cost.Statement.{statement}
 use Rattle.costs.proofs.path_cost.Tie as tie

@@ -6,7 +6,7 @@ use Rattle.model.specs.Judged.{Judged}
 use Rattle.model.specs.Query.{Tables}
 use Rattle.model.specs.Tables.{judgeTables, verdictBy}
 use Rattle.laws.proofs.Judging.{Good, taken-good}
-use Rattle.explanation.proofs.Whole.{whole, refused}
+use Rattle.explanation.proofs.Whole.{parts, refused}
 use Rattle.explanation.proofs.check.Statement.{statement}
 use Rattle.explanation.proofs.check.Tie as tie
 
@@ -33,14 +33,16 @@ accepted : (c : tie.After-enum-told) →
 accepted c = taken-good _ (sym (c .enum-told .given .1) ∙ c .before .before .judge-tables .ensures)
 
 check-requires : tie.Need-check-requires
-check-requires c κs = let g = accepted c in record { rules = g .what .rules; are = whole _ _ _ (g .what) (g .is) .rules }
+check-requires c κs =
+    let g = accepted c in
+    record { rules = g .what .rules; are = parts _ _ _ (g .what) (g .is) .rules }
 
 returns-2 : tie.Need-returns-2
 returns-2 c =
     let d = c .before in
     let a = d .before .before .before .before .before .before .before .args in
     let g = accepted d in
-    c .check .ensures (g .what .rules) (whole _ _ _ (g .what) (g .is) .rules)
+    c .check .ensures (g .what .rules) (parts _ _ _ (g .what) (g .is) .rules)
     ∙ sym (ap (λ (j : Judged Tables). verdictBy j (a .words .now)) (g .is))
 
 pub check-spec : {M : Type 1} → statement M

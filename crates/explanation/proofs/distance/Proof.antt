@@ -1,10 +1,13 @@
 -- `explanation::distance` meets its contract: bad tables give their number, good ones what is measured.
 -- Assumes nothing.
 use borrow.Author.Needs.{needs}
+use Prim.Native.Nat.{ℕ}
 use mathlib.Core.Path.{sym, ap, _∙_}
+use lib.ListN.{length-replicate}
 use Rattle.model.specs.Judged.{Judged}
 use Rattle.model.specs.Query.{Tables}
 use Rattle.model.specs.Tables.{judgeTables, measureBy}
+use Rattle.forest.specs.Rows.{tableWords}
 use Rattle.laws.proofs.Judging.{Good, taken-good}
 use Rattle.explanation.proofs.Whole.{whole, unmeasured}
 use Rattle.explanation.proofs.distance.Statement.{statement}
@@ -34,15 +37,17 @@ accepted : (c : tie.After-enum-told) →
 accepted c = taken-good _ (sym (c .enum-told .given .1) ∙ c .before .before .judge-tables .ensures)
 
 measure-requires : tie.Need-measure-requires
-measure-requires c κs = let g = accepted c in whole _ _ _ (g .what) (g .is) .support
+measure-requires c κs =
+    let g = accepted (c .before) in (whole _ _ _ (g .what) (g .is) .support, length-replicate {A = ℕ} tableWords 0)
 
 returns-2 : tie.Need-returns-2
 returns-2 c =
-    let d = c .before in
-    let a = d .before .before .before .before .before .before .args in
+    let d = c .before .before in
+    let at-start = d .before .before .before .before .before .before in
+    let a = at-start .args in
     let g = accepted d in
     let w = whole _ _ _ (g .what) (g .is) in
-    c .measure .ensures (g .what) (w .nodes) (w .conns) ∙ sym (ap (λ (j : Judged Tables). measureBy j (a .left .0) (a .right .0)) (g .is))
+    c .measure .ensures .0 (g .what) (w .nodes) (w .conns) ∙ sym (ap (λ (j : Judged Tables). measureBy j (a .left .0) (a .right .0)) (g .is))
 
 pub distance-spec : {M : Type 1} → statement M
 distance-spec =

@@ -44,7 +44,9 @@ enum-told-2 : tie.Need-enum-told-2
 enum-told-2 c = search needs
 
 judge-connections-requires : tie.Need-judge-connections-requires
-judge-connections-requires c κs = nodes (c .before .before .before)
+judge-connections-requires c κs =
+    let at-enum-told = c .before .before .before in
+    nodes (at-enum-told)
 
 returns-3 : tie.Need-returns-3
 returns-3 c =

@@ -2,7 +2,7 @@
 use native.Mathlib.Omega.{arith}
 use Prim.Native.Nat.{ℕ, _*_, _+_, _-_, _/_, _<_, _≤_}
 use mathlib.Core.List.{List, []}
-use mathlib.Core.Path.{_≡_, ap, subst, sym, _∙_}
+use mathlib.Core.Path.{_≡_, ap, _∙_}
 use lib.ListN.{length, set}
 use Rattle.model.specs.Limits.{nodeLimit}
 use Rattle.model.specs.Forest.{cur, nxt}
@@ -11,7 +11,7 @@ use Rattle.model.specs.declared.Connection.{Connection}
 use Rattle.entries.specs.Connections.{connectionIn, oldest}
 use Rattle.entries.proofs.Connections.{length-oldest}
 use Rattle.forest.specs.Rows.{ageWord, listed, nextWord, rowWords}
-use Rattle.forest.specs.Filling.{Sounded, Tied, Unknown}
+use Rattle.forest.specs.Filling.{Sounded, Tied, DepthsUnknown}
 use Rattle.forest.proofs.Climbing.{resounded, within-at}
 use Rattle.forest.proofs.Filled.{rows-are, tied-next, unknown-more}
 use Rattle.forest.proofs.fill_rows.Statement.{statement}
@@ -19,7 +19,7 @@ use Rattle.forest.proofs.fill_rows.Tie as tie
 
 abbrev Inv-loop : tie.InvT-loop
 Inv-loop conns n rows₀ count age₀ rows age =
-    (age ≤ count) × ((old : List ℕ) → Tied [] n old rows₀ → Unknown n rows₀ → Tied (oldest age conns) n old rows × Unknown n rows)
+    (age ≤ count) × ((old : List ℕ) → Tied [] n old rows₀ → DepthsUnknown n rows₀ → Tied (oldest age conns) n old rows × DepthsUnknown n rows)
 
 abbrev μ-loop : tie.MeasureT-loop
 μ-loop conns n rows₀ count age₀ rows age = count - age
@@ -31,7 +31,7 @@ few c = omega (arith, length-oldest (length (c .args .conns .now) / connectionWo
 -- the rows so far
 tied : (c : tie.At-loop Inv-loop μ-loop) →
     let s = c .before .before .before .before in
-    Tied (oldest (c .loop .age) (s .args .conns .now)) (s .args .n) (s .args .rows .now) (c .loop .rows) × Unknown (s .args .n) (c .loop .rows)
+    Tied (oldest (c .loop .age) (s .args .conns .now)) (s .args .n) (s .args .rows .now) (c .loop .rows) × DepthsUnknown (s .args .n) (c .loop .rows)
 tied c = let t = c .before .put-tops .ensures in c .loop .inv .1 _ (t .0) (t .1)
 
 -- the next connection's current is a node

@@ -1,4 +1,4 @@
-use native.Mathlib.Omega.{arith}
+-- `forest::next_of` meets its contract: the first word of the row.
 use borrow.Author.Needs.{needs}
 use Rattle.forest.proofs.next_of.Statement.{statement}
 use Rattle.forest.proofs.next_of.Tie as tie

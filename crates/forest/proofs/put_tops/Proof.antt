@@ -3,13 +3,13 @@ use native.Mathlib.Omega.{arith}
 use Prim.Native.Nat.{_-_, _≤_}
 use mathlib.Core.List.{[]}
 use mathlib.Core.Path.{_≡_}
-use Rattle.forest.specs.Filling.{Tied, Unknown}
+use Rattle.forest.specs.Filling.{Tied, DepthsUnknown}
 use Rattle.forest.proofs.Filled.{tied-begun, tied-none, unknown-begun}
 use Rattle.forest.proofs.put_tops.Statement.{statement}
 use Rattle.forest.proofs.put_tops.Tie as tie
 
 abbrev Inv-loop : tie.InvT-loop
-Inv-loop n rows₀ i₀ rows i = (i ≤ n) × Tied [] i rows₀ rows × Unknown i rows
+Inv-loop n rows₀ i₀ rows i = (i ≤ n) × Tied [] i rows₀ rows × DepthsUnknown i rows
 
 abbrev μ-loop : tie.MeasureT-loop
 μ-loop n rows₀ i₀ rows i = n - i

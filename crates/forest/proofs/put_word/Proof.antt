@@ -1,4 +1,4 @@
-use native.Mathlib.Omega.{arith}
+-- `forest::put_word` meets its contract: the word that is written is the one asked for.
 use borrow.Author.Needs.{needs}
 use Rattle.forest.proofs.put_word.Statement.{statement}
 use Rattle.forest.proofs.put_word.Tie as tie

@@ -1,4 +1,4 @@
-use native.Mathlib.Omega.{arith}
+-- `forest::row_word` meets its contract: the word that is read is the one asked for.
 use borrow.Author.Needs.{needs}
 use Rattle.forest.proofs.row_word.Statement.{statement}
 use Rattle.forest.proofs.row_word.Tie as tie

@@ -3,11 +3,10 @@ use native.Mathlib.Omega.{arith}
 use Prim.Native.Nat.{ℕ, suc, _<_}
 use mathlib.Core.List.{List}
 use mathlib.Core.Logic.{inl}
-use mathlib.Core.Path.{_≡_, refl, sym, ap, _∙_}
+use mathlib.Core.Path.{_≡_, refl, sym, _∙_}
 use Rattle.model.specs.Limits.{nodeLimit}
 use Rattle.model.specs.declared.Connection.{Connection}
 use Rattle.paths.specs.Hangs.{depth}
-use Rattle.forest.specs.Rows.{nextIn}
 use Rattle.forest.specs.Filling.{Sounded}
 use Rattle.forest.proofs.Climbing.{Settling, depth-few, settle-done, settle-next}
 use Rattle.forest.proofs.settle.Statement.{statement}

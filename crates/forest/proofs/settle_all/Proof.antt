@@ -1,18 +1,18 @@
 -- `forest::settle_all` meets its contract: the depths of the nodes passed are there, and those that are there are right.
 use native.Mathlib.Omega.{arith}
-use Prim.Native.Nat.{ℕ, _-_, _<_, _≤_}
+use Prim.Native.Nat.{ℕ, _-_, _≤_}
 use mathlib.Core.List.{List}
 use mathlib.Core.Path.{_≡_}
 use Rattle.model.specs.Limits.{nodeLimit}
 use Rattle.model.specs.declared.Connection.{Connection}
-use Rattle.forest.specs.Filling.{Known, Sounded}
+use Rattle.forest.specs.Filling.{DepthsKnown, Sounded}
 use Rattle.forest.proofs.Climbing.{known-more, resounded}
 use Rattle.forest.proofs.settle_all.Statement.{statement}
 use Rattle.forest.proofs.settle_all.Tie as tie
 
 abbrev Inv-loop : tie.InvT-loop
 Inv-loop n rows₀ i₀ rows i =
-    (i ≤ n) × ((cs : List Connection) (old : List ℕ) → Sounded cs n old rows₀ → Sounded cs n old rows × Known i rows)
+    (i ≤ n) × ((cs : List Connection) (old : List ℕ) → Sounded cs n old rows₀ → Sounded cs n old rows × DepthsKnown i rows)
 
 abbrev μ-loop : tie.MeasureT-loop
 μ-loop n rows₀ i₀ rows i = n - i

@@ -5,14 +5,14 @@ use Rattle.marks.proofs.Seen.{marked-forward, marked-backward}
 use Rattle.marks.proofs.marked.Statement.{statement}
 use Rattle.marks.proofs.marked.Tie as tie
 
-marks-in-requires : tie.Need-marks-in-requires
-marks-in-requires c κs = search needs
+directions-in-requires : tie.Need-directions-in-requires
+directions-in-requires c κs = search needs
 
 returns : tie.Need-returns
-returns c = λ f h. marked-forward (c .before .marks-in .result) f (c .before .marks-in .ensures f h) (c .if1 .taken)
+returns c = λ f h. marked-forward (c .before .directions-in .result) f (c .before .directions-in .ensures f h) (c .if1 .taken)
 
 returns-2 : tie.Need-returns-2
-returns-2 c = λ f h. marked-backward (c .before .marks-in .result) f (c .before .marks-in .ensures f h) (c .if1 .left)
+returns-2 c = λ f h. marked-backward (c .before .directions-in .result) f (c .before .directions-in .ensures f h) (c .if1 .left)
 
 pub marked-spec : {M : Type 1} → statement M
-marked-spec = tie.close (tie.spec marks-in-requires returns returns-2)
+marked-spec = tie.close (tie.spec directions-in-requires returns returns-2)

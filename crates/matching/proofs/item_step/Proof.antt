@@ -2,75 +2,78 @@
 -- there is no other.
 -- Assumes nothing.
 use borrow.Author.Needs.{needs}
-use native.Mathlib.Omega.{arith}
-use Prim.Native.Nat.{ℕ}
-use mathlib.Core.Bool.{false}
-use mathlib.Core.Path.{_≡_, sym, ap, _∙_}
-use lib.ListN.{getD}
+use mathlib.Core.Path.{sym, _∙_}
 use Rattle.terms.proofs.Place.{row-room as term-room, row-well}
-use Rattle.matching.specs.declared.Slot.{Slot}
-use Rattle.matching.specs.Pattern.{slotOf}
-use Rattle.matching.proofs.Patterns.{row-room, row-small}
+use Rattle.rule_table.specs.Slots.{itemAt}
+use Rattle.rule_table.proofs.Slots.{variable-small}
+use Rattle.matching.specs.declared.Fit.the-variants.{Off}
+use Rattle.matching.proofs.Patterns.{row-room}
 use Rattle.matching.proofs.Item.{bind-step, op-step, other-step}
 use Rattle.matching.proofs.item_step.Statement.{statement}
 use Rattle.matching.proofs.item_step.Tie as tie
+
+-- places by name: the entry, from where the slot was read; and that place, from the first two arms
+abbrev at-start : tie.After-slot-at → tie.Start
+at-start c = c .before .before .before
+
+abbrev at-variable : tie.After-slot → tie.After-slot-at
+at-variable c = c .before .before
+
+abbrev at-operator : tie.After-slot2 → tie.After-slot-at
+at-operator c = c .before .before
 
 slot-at-requires : tie.Need-slot-at-requires
 slot-at-requires c κs =
     let r = c .before .before .pre .1 in
     row-room _ _ (r .left) (r .rows .patterns) (r .rows .isP)
 
-wide-requires : tie.Need-wide-requires
-wide-requires c κs = search needs
-
--- the item's words
-slot : (c : tie.After-slot-at) (f : Slot → ℕ) → let a = c .before .before .before .args in
-    f (slotOf (a .side .now) (a .item)) ≡ f (c .slot-at .result)
-slot c f = sym (ap f (c .slot-at .ensures))
-
-kind : (c : tie.After-slot-at)
-    → getD (c .before .before .before .args .side .now) (c .before .before .before .args .item) 0 ≡ c .slot-at .result .kind
-kind c = slot c (λ (x : Slot). x .kind)
+enum-known-slot : tie.Need-enum-known-slot
+enum-known-slot c = search needs
 
 bind-requires : tie.Need-bind-requires
 bind-requires c κs =
-    let i = c .before .before in
-    let s = i .before .before .before in
-    let a = s .args in
-    let r = s .pre .1 in
-    let small = row-small (a .side .now) (a .item) (r .left) (r .rows .patterns) (r .rows .isP) (kind i ∙ c .before .match .keys1) in (
-      omega (arith, slot i (λ (x : Slot). x .number), c .wide .ensures, small),
-      (s .pre .0, row-well (a .words .now) (a .at) (r .left) (r .rows .terms) (r .rows .isT)),
+    let v = c .before in
+    let s = at-start (at-variable v) in
+    let r = s .pre .1 in (
+      variable-small (itemAt (s .args .side .now) (s .args .item)) _ (sym (at-variable v .slot-at .ensures) ∙ v .slot .given .1),
+      (s .pre .0, row-well (s .args .words .now) (s .args .at) (r .left) (r .rows .terms) (r .rows .isT)),
     )
+
+enum-known-slot-2 : tie.Need-enum-known-slot-2
+enum-known-slot-2 c = search needs
 
 op-step-requires : tie.Need-op-step-requires
 op-step-requires c κs =
-    let r = c .before .before .before .before .pre .1 in
+    let r = at-start (at-operator (c .before)) .pre .1 in
     term-room _ _ (r .left) (r .rows .terms) (r .rows .isT)
+
+enum-told : tie.Need-enum-told
+enum-told c = search needs
 
 returns : tie.Need-returns
 returns c =
-    let i = c .before .before .before in
-    let a = i .before .before .before .args in
-    bind-step (a .side .now) (a .item) (a .words .now) (a .at) (a .b) (c .bind .result) (kind i ∙ c .before .before .match .keys1)
-    (c .before .wide .result) (slot i (λ (x : Slot). x .number) ∙ sym (c .before .wide .ensures)) (c .bind .ensures)
+    let v = c .before .before in
+    let d = at-variable v in
+    let a = at-start d .args in
+    bind-step (a .side .now) (a .item) (a .words .now) (a .at) (a .b) (c .bind .result) _ (sym (d .slot-at .ensures) ∙ v .slot .given .1)
+    (c .bind .ensures)
 
 returns-2 : tie.Need-returns-2
 returns-2 c =
-    let i = c .before .before in
-    let s = i .before .before .before in
+    let v = c .before .before in
+    let d = at-operator v in
+    let s = at-start d in
     let a = s .args in
-    op-step (a .side .now) (a .item) (a .words .now) (a .at) (a .b) (s .pre .0) (c .op-step .result) (kind i ∙ c .before .match .keys2)
-    _ _ (slot i (λ (x : Slot). x .number)) (slot i (λ (x : Slot). x .count)) (c .op-step .ensures)
+    op-step (a .side .now) (a .item) (a .words .now) (a .at) (a .b) (s .pre .0) (c .op-step .result) _ _
+    (sym (d .slot-at .ensures) ∙ v .slot2 .given .1) (c .op-step .ensures)
 
 returns-3 : tie.Need-returns-3
 returns-3 c =
-    let i = c .before in
-    let a = i .before .before .before .args in
-    other-step (a .side .now) (a .item) (a .words .now) (a .at) (a .b) (record { ok = false; at = a .at; more = 0; bound = a .b })
-    (λ z. c .match .rest .0 .1 (sym (kind i) ∙ z))
-    (λ z. c .match .rest .1 (sym (kind i) ∙ z))
+    let d = c .before .before in
+    let a = at-start d .args in
+    other-step (a .side .now) (a .item) (a .words .now) (a .at) (a .b) (record { fit = Off; at = a .at; more = 0; bound = a .b })
+    (sym (d .slot-at .ensures) ∙ c .enum-told .given .1)
 
 pub item-step-spec : {M : Type 1} → statement M
 item-step-spec =
-    tie.close (tie.spec slot-at-requires wide-requires bind-requires op-step-requires returns returns-2 returns-3)
+    tie.close (tie.spec slot-at-requires enum-known-slot bind-requires enum-known-slot-2 op-step-requires enum-told returns returns-2 returns-3)

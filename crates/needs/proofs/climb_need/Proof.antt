@@ -10,7 +10,7 @@ use Rattle.model.specs.Limits.{nodeLimit}
 use Rattle.forest.specs.Rows.{Climbs, ageIn, costIn, depthIn, nextIn}
 use Rattle.costs.specs.Costs.{Above}
 use Rattle.trees.specs.Sizes.{heldNodes, nodeCap}
-use Rattle.needs.proofs.Climbed.{Gone, Rise, gone-all, gone-falls, gone-more, gone-up}
+use Rattle.needs.proofs.Climbed.{Counted, Gone, gone-all, gone-falls, gone-more, gone-up}
 use Rattle.needs.proofs.climb_need.Statement.{statement}
 use Rattle.needs.proofs.climb_need.Tie as tie
 
@@ -41,7 +41,7 @@ small c = omega (arith, gone c .inside, c .before .pre .charged .climbs .rooted 
 aged : (c : tie.Then1 Inv-loop μ-loop) →
     let l = looped c in
     let s = l .before in
-    Rise (s .args .rows .now) (s .args .table .now) (s .pre .conns) (l .loop .at .0) (s .args .to .0) (nextIn (s .args .rows .now) (l .loop .at .0))
+    Counted (s .args .rows .now) (s .args .table .now) (s .pre .conns) (l .loop .at .0) (s .args .to .0) (nextIn (s .args .rows .now) (l .loop .at .0))
 aged c = let l = looped c in gone-up (l .before .pre .charged .climbs) (gone l) _ (c .if1 .taken) refl
 
 -- what the round's two sums come to

@@ -15,16 +15,22 @@ enum-known-found c = search needs
 enum-told : tie.Need-enum-told
 enum-told c = search needs
 
+-- the entry, from where the end was looked for
+abbrev at-start : tie.After-subterm-end → tie.Start
+at-start c = c .before .before
+
 returns : tie.Need-returns
 returns c =
-    let a = c .before .before .before .before .before .args in
-    subst (EndIs (a .words .now) (a .at)) (c .before .found .given .1) (c .before .before .before .subterm-end .ensures)
+    let e = c .before .before .before in
+    let a = at-start e .args in
+    subst (EndIs (a .words .now) (a .at)) (c .before .found .given .1) (e .subterm-end .ensures)
 
 returns-2 : tie.Need-returns-2
 returns-2 c =
-    let s = c .before .before .before .before in
-    let a = s .args in
-    absurd (subst (EndIs (a .words .now) (a .at)) (c .enum-told .given .1) (c .before .before .subterm-end .ensures) (s .pre .end) (s .pre .term) (s .pre .is))
+    let e = c .before .before in
+    let s = at-start e in
+    let none = subst (EndIs (s .args .words .now) (s .args .at)) (c .enum-told .given .1) (e .subterm-end .ensures) in
+    absurd (none (s .pre .end) (s .pre .term) (s .pre .is))
 
 pub end-of-spec : {M : Type 1} → statement M
 end-of-spec = tie.close (tie.spec subterm-end-requires enum-known-found enum-told returns returns-2)

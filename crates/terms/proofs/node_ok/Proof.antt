@@ -6,6 +6,7 @@ use mathlib.Core.Bool.{true, false}
 use native.Mathlib.Omega.{arith}
 use lib.Dec.{leb, eqb, eqb·suc-zero}
 use borrow.Author.Tests.{lt-leb, le-leb}
+use Rattle.model.specs.Limits.{childLimit}
 use Rattle.model.specs.Term.{markOf}
 use Rattle.terms.specs.Place.{isSome}
 use Rattle.terms.proofs.node_ok.Statement.{statement}
@@ -28,10 +29,10 @@ no-mark (suc (suc zero)) r h = absurd (omega arith)
 no-mark (suc (suc (suc m))) r h = refl
 
 returns : tie.Need-returns
-returns c = simp (lt-leb (c .before .before .args .n .count) 8 (omega arith))
+returns c = simp (lt-leb (c .before .before .args .n .count) childLimit (omega arith))
 
-few : (c : tie.Else1) → leb (c .before .before .args .n .count) 8 ≡ true
-few c = le-leb (c .before .before .args .n .count) 8 (omega arith)
+few : (c : tie.Else1) → leb (c .before .before .args .n .count) childLimit ≡ true
+few c = le-leb (c .before .before .args .n .count) childLimit (omega arith)
 
 returns-2 : tie.Need-returns-2
 returns-2 c = simp (few (c .before .before), c .before .match .keys1) (no-rule (c .before .before .before .before .args .n .rule .0))

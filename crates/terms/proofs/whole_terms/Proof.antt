@@ -19,6 +19,16 @@ Inv-loop words len pos₀ n₀ pos n = (len ≡ length words) × Counting words 
 abbrev μ-loop : tie.MeasureT-loop
 μ-loop words len pos₀ n₀ pos n = length words - pos
 
+-- places by name: the entry, from the loop; the loop, from where a term was looked for; and that place, from where one was found
+abbrev at-start : tie.At-loop Inv-loop μ-loop → tie.Start Inv-loop μ-loop
+at-start c = c .before .before
+
+abbrev at-loop : tie.After-subterm-end Inv-loop μ-loop → tie.At-loop Inv-loop μ-loop
+at-loop c = c .before .before
+
+abbrev at-found : tie.After-found Inv-loop μ-loop → tie.After-subterm-end Inv-loop μ-loop
+at-found c = c .before .before
+
 loop-holds : tie.Need-loop-holds Inv-loop μ-loop
 loop-holds c = (refl, whole-first (c .before .args .words .now))
 
@@ -33,21 +43,21 @@ enum-told c = search needs
 
 returns : tie.Need-returns Inv-loop μ-loop
 returns c =
-    let l = c .before .before .before .before .loop in
-    let ws = c .before .before .before .before .before .before .args .words .now in
-    whole-broken ws (l .pos) (l .n) (subst (EndIs ws (l .pos)) (c .enum-told .given .1) (c .before .before .subterm-end .ensures))
+    let e = c .before .before in
+    let l = at-loop e .loop in
+    let ws = at-start (at-loop e) .args .words .now in
+    whole-broken ws (l .pos) (l .n) (subst (EndIs ws (l .pos)) (c .enum-told .given .1) (e .subterm-end .ensures))
     (omega arith) (l .inv .1)
 
 -- the term that was found
-found : (c : tie.After-found Inv-loop μ-loop)
-    → EndsAt (c .before .before .before .before .before .before .args .words .now) (c .before .before .before .before .loop .pos) (c .found .given .0 .0)
+found : (c : tie.After-found Inv-loop μ-loop) → let l = at-loop (at-found c) in
+    EndsAt (at-start l .args .words .now) (l .loop .pos) (c .found .given .0 .0)
 found c =
-    subst (EndIs (c .before .before .before .before .before .before .args .words .now) (c .before .before .before .before .loop .pos))
-    (c .found .given .1)
-    (c .before .before .subterm-end .ensures)
+    let l = at-loop (at-found c) in
+    subst (EndIs (at-start l .args .words .now) (l .loop .pos)) (c .found .given .1) (at-found c .subterm-end .ensures)
 
 add-n : tie.Need-add-n Inv-loop μ-loop
-add-n c = omega (arith, c .before .before .before .before .before .before .before .good .0)
+add-n c = omega (arith, at-start (at-loop (at-found (c .before))) .good .0)
 
 loop-less : tie.Need-loop-less Inv-loop μ-loop
 loop-less c =
@@ -56,15 +66,15 @@ loop-less c =
 
 loop-again : tie.Need-loop-again Inv-loop μ-loop
 loop-again c =
-    let l = c .before .before .before .before .before .loop in
+    let at = at-loop (at-found (c .before)) in
+    let l = at .loop in
     let f = found (c .before) in
-    let ws = c .before .before .before .before .before .before .before .args .words .now in
-    (l .inv .0, whole-next ws (l .pos) (l .n) (c .before .found .given .0 .0) (f .term) (f .is) (l .inv .1))
+    (l .inv .0, whole-next (at-start at .args .words .now) (l .pos) (l .n) (c .before .found .given .0 .0) (f .term) (f .is) (l .inv .1))
 
 returns-2 : tie.Need-returns-2 Inv-loop μ-loop
 returns-2 c =
     let l = c .before .loop in
-    whole-done (c .before .before .before .args .words .now) (l .pos) (l .n) (omega arith) (l .inv .1)
+    whole-done (at-start (c .before) .args .words .now) (l .pos) (l .n) (omega arith) (l .inv .1)
 
 pub whole-terms-spec : {M : Type 1} → statement M
 whole-terms-spec =

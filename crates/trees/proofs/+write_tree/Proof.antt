@@ -1,20 +1,19 @@
 -- `trees::write_tree` meets its contract: the children passed are written behind the root. A child's number is below its node's.
 use borrow.Author.Needs.{needs}
 use native.Mathlib.Omega.{arith}
-use Prim.Native.Nat.{ℕ, _+_, _-_, _*_, _/_, _<_, _≤_}
-use mathlib.Core.Path.{_≡_, ap, sym, _∙_}
+use Prim.Native.Nat.{ℕ, _+_, _-_, _*_, _<_, _≤_}
+use mathlib.Core.Path.{_≡_, sym, _∙_}
 use lib.ListN.{length}
 use borrow.Fn.Kinds.{In}
 use borrow.Fn.PlainCycle.{Measures, is, falls, and}
 use Rattle.model.specs.Limits.{flatWords}
-use Rattle.model.specs.Tables.{nodeWords}
 use Rattle.model.specs.Flat.{sizeOf}
-use Rattle.entries.specs.Nodes.{nodesOf, Known, countIn}
+use Rattle.entries.specs.Nodes.{nodesOf, countIn}
 use Rattle.entries.proofs.Nodes.{known}
 use Rattle.nodes.proofs.child_of.Reads as child-of
 use Rattle.nodes.proofs.count_of.Reads as count-of
 use Rattle.trees.proofs.Grown.{Grown, grown-none, grown-length, grown-room, grown-more, grown-all}
-use Rattle.trees.proofs.Planted.{long}
+use Rattle.trees.proofs.Planted.{term-long}
 use Rattle.trees.proofs.put_root.Reads as put-root
 use Rattle.trees.proofs.write_tree.Reads as write-tree
 use Rattle.trees.proofs.write_tree.Kinds as write-tree-kinds
@@ -63,7 +62,7 @@ put-root-requires : (t : ℕ) → lts.Need-put-root-requires (claims t) (at-meas
 put-root-requires t c κs =
     let s = c .before .before .before in
     let p = s .pre .1 in
-    (known (s .args .n .0) (p .0 .0 .stand) (p .0 .1), omega (arith, long (s .args .nodes .now) (p .0 .0) (s .args .n .0) (p .0 .1), p .1))
+    (known (s .args .n .0) (p .0 .0 .stand) (p .0 .1), omega (arith, term-long (s .args .nodes .now) (p .0 .0) (s .args .n .0) (p .0 .1), p .1))
 
 count-of-requires : (t : ℕ) → lts.Need-count-of-requires (claims t) (at-measure t) write-tree.Post Inv-loop μ-loop
 count-of-requires t c κs =
@@ -75,7 +74,7 @@ add-end : (t : ℕ) → lts.Need-add-end (claims t) (at-measure t) write-tree.Po
 add-end t c =
     let s = c .before .before .before .before .before .before .before in
     let p = s .pre .1 in
-    omega (arith, long (s .args .nodes .now) (p .0 .0) (s .args .n .0) (p .0 .1), p .1)
+    omega (arith, term-long (s .args .nodes .now) (p .0 .0) (s .args .n .0) (p .0 .1), p .1)
 
 loop-holds : (t : ℕ) → lts.Need-loop-holds (claims t) (at-measure t) write-tree.Post Inv-loop μ-loop
 loop-holds t c = (c .count-of .ensures, grown-none _ _ _ _)

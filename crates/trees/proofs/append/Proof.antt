@@ -1,11 +1,10 @@
 -- `trees::append` meets its contract: what stands before the subterm, the tree with its root written again, what stands behind it.
 use native.Mathlib.Omega.{arith}
 use borrow.Author.Needs.{needs}
-use Prim.Native.Nat.{ℕ, _+_, _≤_}
 use mathlib.Core.Path.{_≡_, _∙_}
 use lib.ListN.{length}
 use Rattle.entries.proofs.Nodes.{known}
-use Rattle.trees.proofs.Planted.{long}
+use Rattle.trees.proofs.Planted.{term-long}
 use Rattle.trees.proofs.Appended.{appended}
 use Rattle.trees.proofs.append.Statement.{statement}
 use Rattle.trees.proofs.append.Tie as tie
@@ -65,7 +64,7 @@ put-root-requires c κs =
     let s = start (first w) in
     let p = s .pre in (
       known (s .args .node .0) (p .0 .0 .stand) (p .0 .1),
-      omega (arith, long-planted w, p .1 .1, long (s .args .nodes .now) (p .0 .0) (s .args .node .0) (p .0 .1)),
+      omega (arith, long-planted w, p .1 .1, term-long (s .args .nodes .now) (p .0 .0) (s .args .node .0) (p .0 .1)),
     )
 
 copy-bare-requires-2 : tie.Need-copy-bare-requires-2

@@ -1,12 +1,9 @@
 -- `trees::copy_bare` meets its contract: the nodes passed are copied without their marks; those left are as they were.
 use borrow.Author.Needs.{needs}
 use native.Mathlib.Omega.{arith}
-use Prim.Native.Nat.{ℕ, _+_, _-_, _≤_}
-use mathlib.Core.Path.{_≡_, ap, ap₂, _∙_, subst⁻¹}
-use mathlib.Core.List.{List, [], _∷_}
+use Prim.Native.Nat.{_-_, _≤_}
+use mathlib.Core.Path.{_≡_}
 use lib.ListN.{length}
-use Rattle.model.specs.Limits.{flatWords}
-use Rattle.trees.specs.Area.{splice}
 use Rattle.trees.proofs.Copied.{Copied, copied-none, copied-length, copied-more, copied-all}
 use Rattle.trees.proofs.copy_bare.Statement.{statement}
 use Rattle.trees.proofs.copy_bare.Tie as tie

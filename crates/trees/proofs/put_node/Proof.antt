@@ -1,7 +1,6 @@
 -- `trees::put_node` meets its contract: four stores are one writing of four words.
 use native.Mathlib.Omega.{arith}
 use borrow.Author.Needs.{needs}
-use mathlib.Core.Path.{_≡_}
 use lib.ListN.{length-set}
 use Rattle.trees.proofs.Area.{splice-node}
 use Rattle.trees.proofs.put_node.Statement.{statement}

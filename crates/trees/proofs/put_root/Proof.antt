@@ -2,10 +2,9 @@
 use native.Mathlib.Omega.{arith}
 use borrow.Author.Needs.{needs}
 use Prim.Native.Nat.{ℕ}
-use mathlib.Core.Path.{_≡_, ap, ap₂, _∙_}
-use mathlib.Core.List.{List, [], _∷_}
+use mathlib.Core.Path.{ap₂, _∙_}
+use mathlib.Core.List.{[], _∷_}
 use Rattle.trees.specs.Area.{splice}
-use Rattle.trees.proofs.Area.{length-splice}
 use Rattle.trees.proofs.put_root.Statement.{statement}
 use Rattle.trees.proofs.put_root.Tie as tie
 

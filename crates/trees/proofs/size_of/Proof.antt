@@ -1,7 +1,7 @@
 -- `trees::size_of` meets its contract: the number of the node is the place in the table.
 use borrow.Author.Needs.{needs}
 use Prim.Native.Nat.{ℕ}
-use mathlib.Core.Path.{_≡_, ap, _∙_}
+use mathlib.Core.Path.{ap, _∙_}
 use lib.ListN.{getD}
 use Rattle.trees.proofs.size_of.Statement.{statement}
 use Rattle.trees.proofs.size_of.Tie as tie
