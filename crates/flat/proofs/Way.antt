@@ -55,7 +55,7 @@ module _ (ns : List Node) where
   pairs-turned cs (x ∷ xs) [] f p = absurd p
   pairs-turned cs (x ∷ xs) (y ∷ ys) f p = ap₂ _+_ (dist-sym ns cs x y f (p .0)) (pairs-turned cs xs ys f (p .1))
 
-  cost-turned : (cs : List Connection) (w : Justification) (a b : ℕ) → Loose cs → (w ≡ Congruence → Twins ns cs a b) →
+  pub cost-turned : (cs : List Connection) (w : Justification) (a b : ℕ) → Loose cs → (w ≡ Congruence → Twins ns cs a b) →
       costBy ns (dist ns cs) w b a ≡ costBy ns (dist ns cs) w a b
   unfolding costBy
   cost-turned cs (byRule n f) a b l t = refl

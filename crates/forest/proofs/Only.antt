@@ -7,6 +7,7 @@ use denote.Ref.{now}
 use Rattle.model.specs.declared.NodeNo.{NodeNo}
 use Rattle.paths.specs.declared.Meeting.{Meeting}
 use Rattle.forest.proofs.next_of.Reads as next-of
+use Rattle.forest.proofs.age_of.Reads as age-of
 use Rattle.forest.proofs.cost_of.Reads as cost-of
 use Rattle.forest.proofs.put_cost.Reads as put-cost
 use Rattle.forest.proofs.fill_rows.Reads as fill-rows
@@ -15,6 +16,9 @@ use Rattle.forest.proofs.joined.Reads as joined
 
 next-of-only : (κs : Lfts 1) (a s s′ : _) (r r′ : NodeNo) → next-of.Post κs a r s → next-of.Post κs a r′ s′ → r ≡ r′
 next-of-only κs a s s′ r r′ p q = ap (λ (n : ℕ). record { 0 = n }) (p ∙ sym q)
+
+age-of-only : (κs : Lfts 1) (a s s′ : _) (r r′ : ℕ) → age-of.Post κs a r s → age-of.Post κs a r′ s′ → r ≡ r′
+age-of-only κs a s s′ r r′ p q = p ∙ sym q
 
 cost-of-only : (κs : Lfts 1) (a s s′ : _) (r r′ : ℕ) → cost-of.Post κs a r s → cost-of.Post κs a r′ s′ → r ≡ r′
 cost-of-only κs a s s′ r r′ p q = p ∙ sym q
