@@ -1,5 +1,5 @@
 -- What accepted tables give to whoever walks them: each connection is sound, and a congruence's children are joined by older ones.
-use Prim.Native.Nat.{ℕ, zero, suc, _+_, _*_, _<_}
+use Prim.Native.Nat.{ℕ, zero, suc, _+_, _*_, _≤_, _<_}
 use mathlib.Core.Path.{_≡_, sym, ap, _∙_, subst₂}
 use mathlib.Core.List.{List}
 use native.Mathlib.Omega.{arith}
@@ -22,6 +22,13 @@ unfolding oldest
 sound-at ns ws zero a s h = absurd (omega arith)
 sound-at ns ws (suc k) a s h =
     elim (ℕ-discrete a k) [ yes e ↦ rw e (sound (s .0)) | no e ↦ sound-at ns ws k a (s .1) (omega arith) ]
+
+-- the older ones of accepted connections are accepted
+pub accepted-older : (ns : List Node) (ws : List ℕ) (k m : ℕ) → k ≤ m → Accepted ns (oldest m ws) → Accepted ns (oldest k ws)
+unfolding oldest
+accepted-older ns ws k zero h a = let e : k ≡ 0 = omega arith in rw e a
+accepted-older ns ws k (suc m) h a =
+    elim (ℕ-discrete k (suc m)) [ yes e ↦ rw e a | no e ↦ accepted-older ns ws k m (omega arith) (a .1) ]
 
 module _ {nodes : List ℕ} {n : ℕ} {conns : List ℕ} {count : ℕ} (s : Supported nodes n conns count) (a : ℕ) (h : a < count) where
   abbrev c : Connection

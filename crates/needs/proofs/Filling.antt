@@ -1,5 +1,5 @@
 -- The tables of needs, filled in the order of age: what is written for a connection is what it appends, both ways.
-use Prim.Native.Nat.{ℕ, zero, suc, _+_, _*_, _/_, _≤_, _<_}
+use Prim.Native.Nat.{ℕ, suc, _+_, _*_, _/_, _≤_, _<_}
 use mathlib.Core.Path.{_≡_, refl, sym, ap, ap₂, _∙_}
 use mathlib.Core.Bool.{Bool, true, false}
 use mathlib.Core.List.{List, _∷_}
@@ -22,7 +22,7 @@ use Rattle.entries.specs.Connections.{connectionIn, oldest}
 use Rattle.entries.specs.Nodes.{countIn, nodesOf}
 use Rattle.entries.proofs.Children.{length-words, words-at}
 use Rattle.entries.proofs.Nodes.{children-in}
-use Rattle.entries.proofs.Support.{current-here, next-here}
+use Rattle.entries.proofs.Support.{accepted-older, current-here, next-here}
 use Rattle.flat.specs.Nodes.{AcceptedNodes}
 use Rattle.flat.proofs.Appended.{appended-size}
 use Rattle.flat.proofs.Needed.{later-size}
@@ -45,13 +45,6 @@ from false c = nxt c
 abbrev pub to : Bool → Connection → ℕ
 to true c = nxt c
 to false c = cur c
-
--- older connections were accepted, too
-accepted-older : (ns : List Node) (ws : List ℕ) (k m : ℕ) → k ≤ m → Accepted ns (oldest m ws) → Accepted ns (oldest k ws)
-unfolding oldest
-accepted-older ns ws k zero h a = let e : k ≡ 0 = omega arith in rw e a
-accepted-older ns ws k (suc m) h a =
-    elim (ℕ-discrete k (suc m)) [ yes e ↦ rw e a | no e ↦ accepted-older ns ws k m (omega arith) (a .1) ]
 
 alike-turned : {nodes rows : List ℕ} {a b : ℕ} → Alike nodes rows a b → Alike nodes rows b a
 alike-turned p =

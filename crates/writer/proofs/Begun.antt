@@ -12,6 +12,7 @@ use Rattle.model.specs.Flat.{later}
 use Rattle.paths.specs.Hangs.{Accepted}
 use Rattle.paths.specs.Meet.{topOf}
 use Rattle.entries.specs.Connections.{oldest}
+use Rattle.entries.proofs.Support.{accepted-older}
 use Rattle.entries.specs.Nodes.{nodesOf}
 use Rattle.forest.specs.Rows.{costIn, listed}
 use Rattle.forest.proofs.Older.{kept, walk-older}
@@ -22,16 +23,17 @@ use Rattle.flat.proofs.Tables.{table-nodes}
 use Rattle.flat.proofs.Way.{way}
 use Rattle.trail.specs.Legs.{Leg, ages, costly, legs}
 use Rattle.trail.specs.Laid.{Layable, LaidOut}
-use Rattle.writer.specs.Written.{Ready, Reached}
-use Rattle.writer.proofs.Legs.{Trip, accepted-older, chain-long, trip}
+use Rattle.needs.specs.Needs.{Counts}
+use Rattle.writer.specs.Written.{Reached}
+use Rattle.writer.proofs.Legs.{Trip, chain-long, trip}
 use Rattle.trail.proofs.Lies.{Lies, legs-long, lies}
 
-module _ {nodes conns rows sizes : List ℕ} (k : Ready nodes conns rows sizes) where
+module _ {nodes conns rows sizes : List ℕ} (k : Counts nodes conns rows sizes) where
   pub accepted-nodes : AcceptedNodes (nodesOf nodes)
-  accepted-nodes = table-nodes nodes (nodesOf nodes) (k .table .is)
+  accepted-nodes = table-nodes nodes (nodesOf nodes) (k .whole .is)
 
   pub accepted-below : (bound : ℕ) → bound ≤ length conns / connectionWords → Accepted (nodesOf nodes) (oldest bound conns)
-  accepted-below bound h = accepted-older (nodesOf nodes) bound (length conns / connectionWords) conns h (k .support .accepted)
+  accepted-below bound h = accepted-older (nodesOf nodes) conns bound (length conns / connectionWords) h (k .support .accepted)
 
   module _ {bound l r : ℕ} (h : Reached nodes conns bound l r) where
     -- a path leads from the one node's term to the other's
@@ -63,14 +65,14 @@ module _ {nodes conns rows sizes : List ℕ} (k : Ready nodes conns rows sizes) 
 
       -- there is room on the trail
       pub path-room : used + length (ages rows (listed conns) r (topOf (listed conns) l r)) + length (ages rows (listed conns) l (topOf (listed conns) l r)) ≤ termLimit
-      path-room = omega (arith, fits, legs-long rows (listed conns) l r (k .climbs .rooted .forest) joined-all)
+      path-room = omega (arith, fits, legs-long rows (listed conns) l r (k .charged .climbs .rooted .forest) joined-all)
 
       pub layable : Layable rows used l r
       layable =
           record {
             conns = listed conns;
             nodes = _;
-            climbs = k .climbs;
+            climbs = k .charged .climbs;
             left-in = h .left-in;
             right-in = h .right-in;
             same = joined-all;
@@ -81,4 +83,4 @@ module _ {nodes conns rows sizes : List ℕ} (k : Ready nodes conns rows sizes) 
           Lies after turn used (legs rows (oldest bound conns) l r) top
       path-lies {after = after} {turn = turn} {top = top} e w =
           subst (λ (hs : List Leg). Lies after turn used hs top) same-legs
-          (lies rows (listed conns) l r (k .climbs .rooted .forest) joined-all w (omega (arith, fits)))
+          (lies rows (listed conns) l r (k .charged .climbs .rooted .forest) joined-all w (omega (arith, fits)))

@@ -23,7 +23,8 @@ use Rattle.trees.proofs.Area.{length-splice, part-written, splice-all, splice-m
 use Rattle.trees.proofs.Around.{around-none}
 use Rattle.trees.proofs.Bare.{bare-term, whole-words}
 use Rattle.writer.specs.Appends.{termWords}
-use Rattle.writer.specs.Written.{postOf, preOf, Asked, Ready, Reached, Wrote}
+use Rattle.needs.specs.Needs.{Counts}
+use Rattle.writer.specs.Written.{postOf, preOf, Asked, Reached, Wrote}
 use Rattle.writer.proofs.Begun.{accepted-below, accepted-nodes}
 use Rattle.writer.proofs.Stands.{Stands, post-is, pre-is, stood}
 
@@ -31,7 +32,7 @@ use Rattle.writer.proofs.Stands.{Stands, post-is, pre-is, stood}
 abbrev bareSpot : ℕ → Spot
 bareSpot end = record { place = 0; post = 0; end = end }
 
-module _ {nodes conns rows sizes : List ℕ} (k : Ready nodes conns rows sizes) {l r : ℕ} (b : Between nodes conns l r) where
+module _ {nodes conns rows sizes : List ℕ} (k : Counts nodes conns rows sizes) {l r : ℕ} (b : Between nodes conns l r) where
   pub reached : Reached nodes conns (length conns / connectionWords) l r
   reached = record { few = omega arith; left-in = b .left-in; right-in = b .right-in; same = b .same }
 

@@ -5,7 +5,6 @@ use mathlib.Core.Bool.{Bool, true, false, not}
 use mathlib.Core.List.{List, [], _∷_, _++_}
 use mathlib.Core.Path.{_≡_, refl, sym, ap, ap₂, subst₂, _∙_}
 use native.Mathlib.Omega.{arith}
-use native.Mathlib.Decide.{ℕ-discrete}
 use lib.ListN.{length}
 use Rattle.model.specs.declared.Connection.{Connection}
 use Rattle.model.specs.Forest.{cur, root}
@@ -16,6 +15,7 @@ use Rattle.paths.specs.Hangs.{Accepted}
 use Rattle.paths.proofs.Accept.{accepted-loose}
 use Rattle.entries.specs.Connections.{connectionIn, oldest}
 use Rattle.entries.proofs.Connections.{length-oldest}
+use Rattle.entries.proofs.Support.{accepted-older}
 use Rattle.forest.specs.Rows.{costIn}
 use Rattle.costs.specs.Costs.{Filled, costAt, held}
 use Rattle.terms.proofs.Rows.{count-join, join-assoc, join-none, one-term}
@@ -94,20 +94,13 @@ newest {ws} {bound} c cs a = go (a .k) (a .few) (a .is)
     go zero h e = let z : _≡_ {A = ℕ} 0 1 = cc in absurd (omega arith)
     go (suc k) h e = record { age = k; below = omega arith; conn = cc; older = cc }
 
--- the older ones of accepted connections are accepted
-pub accepted-older : (ns : List Node) (k m : ℕ) (ws : List ℕ) → k ≤ m → Accepted ns (oldest m ws) → Accepted ns (oldest k ws)
-unfolding oldest
-accepted-older ns k zero ws h a = let e : k ≡ 0 = omega arith in rw e a
-accepted-older ns k (suc m) ws h a =
-    elim (ℕ-discrete k (suc m)) [ yes e ↦ rw e a | no e ↦ accepted-older ns k m ws (omega arith) (a .1) ]
-
 module _ (ns : List Node) (conns : List ℕ) (bound : ℕ) (nodes : AcceptedNodes ns) (accepted : Accepted ns (oldest bound conns)) where
   -- what a connection appends leads from the one end to the other, in as many terms as it costs
   pub leg-way : (a : ℕ) (u : Bool) → a < bound →
       Way ns (from conns (record { age = a; up = u })) (to conns (record { age = a; up = u })) (legTerms ns conns a u) (costAt ns conns a)
   unfolding legTerms oldest costAt
-  leg-way a true h = way-up ns nodes (connectionIn conns a) (oldest a conns) (accepted-older ns (suc a) bound conns (omega arith) accepted)
-  leg-way a false h = way-down ns nodes (connectionIn conns a) (oldest a conns) (accepted-older ns (suc a) bound conns (omega arith) accepted)
+  leg-way a true h = way-up ns nodes (connectionIn conns a) (oldest a conns) (accepted-older ns conns (suc a) bound (omega arith) accepted)
+  leg-way a false h = way-down ns nodes (connectionIn conns a) (oldest a conns) (accepted-older ns conns (suc a) bound (omega arith) accepted)
 
   module _ {rows : List ℕ} (filled : Filled ns conns rows bound) where
     leg : (a : ℕ) (u : Bool) → a < bound →
@@ -155,6 +148,6 @@ module _ (ns : List Node) (conns : List ℕ) (bound : ℕ) (nodes : AcceptedNode
         })
         (Aged conns bound)
         (λ c cs a. let n = newest c cs a in record { k = n .age; few = omega (arith, n .below); is = n .older })
-        (λ cs a. rw (a .is) (accepted-loose ns (oldest (a .k) conns) (accepted-older ns (a .k) bound conns (a .few) accepted)))
+        (λ cs a. rw (a .is) (accepted-loose ns (oldest (a .k) conns) (accepted-older ns conns (a .k) bound (a .few) accepted)))
         (λ c cs a known. own c cs a true) (λ c cs a known. own c cs a false)
         (oldest bound conns) (record { k = bound; few = omega arith; is = refl })

@@ -7,3 +7,4 @@ pub mod Hopping
 pub mod Rewriting
 pub mod Connected
 pub mod FirstTerm
+pub mod Only

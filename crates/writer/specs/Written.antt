@@ -7,21 +7,10 @@ use Rattle.model.specs.Limits.{distanceLimit, termLimit, wordLimit}
 use Rattle.model.specs.Tables.{connectionWords}
 use Rattle.model.specs.Term.{Terms, count}
 use Rattle.model.specs.Forest.{root}
-use Rattle.entries.specs.Connections.{Supported, Twins, oldest}
-use Rattle.entries.specs.Nodes.{nodesOf, NodesWhole}
-use Rattle.forest.specs.Rows.{Climbs, listed}
-use Rattle.costs.specs.Costs.{Filled, nodesIn}
+use Rattle.entries.specs.Connections.{Twins, oldest}
+use Rattle.costs.specs.Costs.{nodesIn}
 use Rattle.trees.specs.Area.{splice, part, bare, around, WholeNodes}
-use Rattle.trees.specs.Sizes.{Sized}
 use Rattle.trees.specs.declared.Spot.{Spot}
-
--- the tables that the writers go by: accepted nodes and connections, rows with costs, sizes
-pub record Ready (nodes conns rows sizes : List ℕ) : Type 0 where
-  pub table : NodesWhole nodes
-  pub support : Supported nodes (nodesIn nodes) conns (length conns / connectionWords)
-  pub climbs : Climbs (listed conns) (nodesIn nodes) rows
-  pub filled : Filled (nodesOf nodes) conns rows (length conns / connectionWords)
-  pub sized : Sized (nodesOf nodes) sizes (nodesIn nodes)
 
 -- the words before and behind a subterm of n words, without their marks
 abbrev pub preOf : List ℕ → Spot → ℕ → List ℕ

@@ -32,7 +32,8 @@ ghost use Rattle.entries.specs.Nodes.{nodesOf};
 ghost use Rattle.forest.specs.Rows.{listed};
 ghost use Rattle.costs.specs.Costs.{Between};
 ghost use Rattle.writer.specs.Appends.{startOf, legTerms, twinTerms, termWords};
-ghost use Rattle.writer.specs.Written.{Ready, Wrote, Asked, Kept, Reached, Matched};
+ghost use Rattle.needs.specs.Needs.{Counts};
+ghost use Rattle.writer.specs.Written.{Wrote, Asked, Kept, Reached, Matched};
 
 // The node that a connection starts from, walked up or down.
 fn start_of(c: Connection, up: bool) -> NodeNo
@@ -54,7 +55,7 @@ fn write_hop(
     age: usize,
     up: bool,
 ) -> usize
-    requires { ⌜ Ready (now nodes) (now conns) (now rows) (now sizes) × (age < length (now conns) / connectionWords) ⌝ }
+    requires { ⌜ Counts (now nodes) (now conns) (now rows) (now sizes) × (age < length (now conns) / connectionWords) ⌝ }
     requires { ⌜ Asked (now trail) (now area) at (termWords (nodesOf (now nodes)) (startOf (connectionIn (now conns) age) up .0)) (legTerms (nodesOf (now nodes)) (now conns) age up) used ⌝ }
     ensures { λ r. ⌜ Wrote (now (area .entry)) at (termWords (nodesOf (now (nodes .entry))) (startOf (connectionIn (now (conns .entry)) age) up .0)) (legTerms (nodesOf (now (nodes .entry))) (now (conns .entry)) age up) (now (area .exit)) r ⌝ }
     ensures { λ _. ⌜ Kept used (now (trail .entry)) (now (trail .exit)) ⌝ }
@@ -88,7 +89,7 @@ fn write_congruence(
     a: NodeNo,
     b: NodeNo,
 ) -> usize
-    requires { ⌜ Ready (now nodes) (now conns) (now rows) (now sizes) × Matched (now nodes) (now conns) age (a .0) (b .0) ⌝ }
+    requires { ⌜ Counts (now nodes) (now conns) (now rows) (now sizes) × Matched (now nodes) (now conns) age (a .0) (b .0) ⌝ }
     requires { ⌜ Asked (now trail) (now area) spot (termWords (nodesOf (now nodes)) (a .0)) (twinTerms (nodesOf (now nodes)) (now conns) age (a .0) (b .0)) used ⌝ }
     ensures { λ r. ⌜ Wrote (now (area .entry)) spot (termWords (nodesOf (now (nodes .entry))) (a .0)) (twinTerms (nodesOf (now (nodes .entry))) (now (conns .entry)) age (a .0) (b .0)) (now (area .exit)) r ⌝ }
     ensures { λ _. ⌜ Kept used (now (trail .entry)) (now (trail .exit)) ⌝ }
@@ -129,7 +130,7 @@ fn write_path(
     left: NodeNo,
     right: NodeNo,
 ) -> usize
-    requires { ⌜ Ready (now nodes) (now conns) (now rows) (now sizes) × Reached (now nodes) (now conns) bound (left .0) (right .0) ⌝ }
+    requires { ⌜ Counts (now nodes) (now conns) (now rows) (now sizes) × Reached (now nodes) (now conns) bound (left .0) (right .0) ⌝ }
     requires { ⌜ Asked (now trail) (now area) spot (termWords (nodesOf (now nodes)) (left .0)) (later (nodesOf (now nodes)) (oldest bound (now conns)) (left .0) (right .0)) used ⌝ }
     ensures { λ r. ⌜ Wrote (now (area .entry)) spot (termWords (nodesOf (now (nodes .entry))) (left .0)) (later (nodesOf (now (nodes .entry))) (oldest bound (now (conns .entry))) (left .0) (right .0)) (now (area .exit)) r ⌝ }
     ensures { λ _. ⌜ Kept used (now (trail .entry)) (now (trail .exit)) ⌝ }
@@ -161,7 +162,7 @@ pub fn write_proof(
     left: NodeNo,
     right: NodeNo,
 )
-    requires { ⌜ Ready (now nodes) (now conns) (now rows) (now sizes) × Between (now nodes) (now conns) (left .0) (right .0) ⌝ }
+    requires { ⌜ Counts (now nodes) (now conns) (now rows) (now sizes) × Between (now nodes) (now conns) (left .0) (right .0) ⌝ }
     requires { ⌜ dist (nodesOf (now nodes)) (listed (now conns)) (left .0) (right .0) ≤ distanceLimit ⌝ }
     requires { ⌜ (length (now area) ≤ wordLimit) × (length (words (flatProof (nodesOf (now nodes)) (listed (now conns)) (left .0) (right .0))) ≡ length (now area)) ⌝ }
     ensures { λ _. ⌜ now (area .exit) ≡ words (flatProof (nodesOf (now (nodes .entry))) (listed (now (conns .entry))) (left .0) (right .0)) ⌝ }

@@ -33,7 +33,7 @@ write-tree-requires : tie.Need-write-tree-requires
 write-tree-requires c κs =
     let s = c .before .before .before .before in
     let k = s .pre .0 in
-    ((k .0 .table, k .1 .left-in), omega (arith, room s, first-long (nodesOf (s .args .nodes .now)) (s .args .left .0)))
+    ((k .0 .whole, k .1 .left-in), omega (arith, room s, first-long (nodesOf (s .args .nodes .now)) (s .args .left .0)))
 
 -- where the first term ends
 end-is : (c : tie.After-write-tree) →

@@ -97,7 +97,7 @@ module _ (t : ℕ) where
       let s = c .before .before .before .before .before .before .before .before .before in
       let a = s .args in
       let m = s .pre .1 .0 .1 in
-      let lower = s .pre .1 .0 .0 .table .stand .lower in
+      let lower = s .pre .1 .0 .0 .whole .stand .lower in
       let i = c .before .before .before .loop .i in
       let h = more (c .before .before) in
       let x = c .before .child-of .ensures in
@@ -139,7 +139,7 @@ module _ (t : ℕ) where
 
   words-of-requires-2 : lts.Need-words-of-requires-2 (congruence-claims t) (write-congruence-at t) write-congruence.Post Inv-loop μ-loop
   words-of-requires-2 c κs =
-      omega (arith, reached c .left-in, c .before .before .before .before .before .before .before .before .before .pre .1 .0 .0 .table .stand .few)
+      omega (arith, reached c .left-in, c .before .before .before .before .before .before .before .before .before .pre .1 .0 .0 .whole .stand .few)
 
   -- the whole run fits, and so does what stands now
   whole : (c : lts.At-loop (congruence-claims t) (write-congruence-at t) write-congruence.Post Inv-loop μ-loop) →
@@ -219,7 +219,7 @@ module _ (t : ℕ) where
   words-of-requires-3 : lts.Need-words-of-requires-3 (congruence-claims t) (write-congruence-at t) write-congruence.Post Inv-loop μ-loop
   words-of-requires-3 c κs =
       let d = c .before .before .before .before .before .before .before .before in
-      omega (arith, reached d .right-in, d .before .before .before .before .before .before .before .before .before .pre .1 .0 .0 .table .stand .few)
+      omega (arith, reached d .right-in, d .before .before .before .before .before .before .before .before .before .pre .1 .0 .0 .whole .stand .few)
 
   -- the new child's words
   new-is : (c : lts.After-words-of3 (congruence-claims t) (write-congruence-at t) write-congruence.Post Inv-loop μ-loop) →

@@ -84,7 +84,7 @@ module _ (t : ℕ) where
   words-of-requires : lts.Need-words-of-requires (hop-claims t) (write-hop-at t) write-hop.Post
   words-of-requires c κs =
       let e = c .before .before .before in
-      omega (arith, from-in e, e .before .before .before .before .before .before .pre .1 .0 .0 .table .stand .few)
+      omega (arith, from-in e, e .before .before .before .before .before .before .pre .1 .0 .0 .whole .stand .few)
 
   mark-for-requires : lts.Need-mark-for-requires (hop-claims t) (write-hop-at t) write-hop.Post
   mark-for-requires c κs = search needs
@@ -128,7 +128,7 @@ module _ (t : ℕ) where
       let old = old-is (c .before .before) in
       let place = k .stood .room in
       let room = k .room in (
-        (s .pre .1 .0 .0 .table, to-in e, mark-word (walked (w .why .given .0 .1 .0) (a .up)) (c .mark-for .ensures)),
+        (s .pre .1 .0 .0 .whole, to-in e, mark-word (walked (w .why .given .0 .1 .0) (a .up)) (c .mark-for .ensures)),
         (
           (k .stood .whole .0, k .stood .whole .2, omega arith),
           omega (

@@ -50,7 +50,7 @@ module _ (t : ℕ) where
   laid c =
       let s = c .before .before .before .before .before in
       let k = s .pre .1 in
-      c .lay-path .ensures (listed (s .args .conns .now)) _ (k .0 .0 .climbs) (k .0 .1 .left-in) (k .0 .1 .right-in)
+      c .lay-path .ensures (listed (s .args .conns .now)) _ (k .0 .0 .charged .climbs) (k .0 .1 .left-in) (k .0 .1 .right-in)
 
   kept : (c : lts.After-lay-path (path-claims t) (write-path-at t) write-path.Post Inv-loop μ-loop) →
       let a = c .before .before .before .before .before .args in
