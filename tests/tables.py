@@ -72,15 +72,16 @@ def nested(levels):
 
 
 def leaning(pairs, shared):
-    """nested congruences of which the upper ones share their right node f(y), with y joined to it by a rule: a term more at each of them"""
+    """Nested congruences, the upper ones all with the right node f(w), to which the leaf w is joined by a rule: a level takes one node, not
+    two, and costs a term. So the nesting goes deepest."""
     nodes, links, x, y = nested(pairs)
-    z = len(nodes)
-    nodes.append((3, [y]))
-    links.append(by_rule(y, z))
+    w, z = len(nodes), len(nodes) + 1
+    nodes += [(4, []), (3, [w])]
+    links += [by_rule(y, w), by_rule(w, z)]
     for _ in range(shared):
         nodes.append((3, [x]))
-        links.append(congruent(len(nodes) - 1, z))
         x = len(nodes) - 1
+        links.append(congruent(x, z))
     return nodes, links, x, z
 
 
