@@ -1,7 +1,7 @@
 /* Erbighenti for C: proved explanations of rewritten alert expressions.
    Tables and proofs are runs of 16-bit words, each a pointer and a length in words; their layouts are in crates/model/specs/Tables.antt and Term.antt.
-   No pointer may be null, also where the length is 0. What is lent to be written (`value`) must not overlap what is lent to be read, and
-   nobody may change the words while a call runs. */
+   No pointer may be null, also where the length is 0. What is lent to be written (`value`, `area`, `distance`, `written`) must not overlap
+   what is lent to be read, nor each other, and nobody may change the words while a call runs. */
 #ifndef ERBIGHENTI_H
 #define ERBIGHENTI_H
 #include <stddef.h>
@@ -18,5 +18,12 @@ uint16_t erbighenti_check(const uint16_t *nodes, size_t nodes_len, const uint16_
 uint16_t erbighenti_distance(const uint16_t *nodes, size_t nodes_len, const uint16_t *rules, size_t rules_len,
                              const uint16_t *connections, size_t connections_len, uint16_t left, uint16_t right,
                              uint64_t *value);
+
+/* A query over tables handed in whole: how does the left node become the right one? Returns document 01's number (2 to 11), 0 for success.
+   Behind `distance` and `written` stand the distance and the words written, both 0 where it is refused.
+   The area holds the proof's words and zeros behind them; after a refusal it is all zero, whatever it held. */
+uint16_t erbighenti_query(const uint16_t *nodes, size_t nodes_len, const uint16_t *rules, size_t rules_len,
+                          const uint16_t *connections, size_t connections_len, uint16_t left, uint16_t right,
+                          uint16_t *area, size_t area_len, uint64_t *distance, uint64_t *written);
 
 #endif

@@ -1,6 +1,8 @@
 /* Calls the library on the cases that it reads from standard input, and prints each answer on a line.
    A case is eight 32-bit numbers (what to call, the lengths of four runs of words, two numbers, and how often), and the four runs.
    With 16 added to what to call, a line has one number more: how many bytes of stack the calls used.
+   A query (3) is lent the fourth run as its area. Its line goes on with the words written, how many words behind them are not zero, and
+   the words themselves.
    No header of the C library is wanted, so that the toolchain's own compiler is enough. */
 #include "../include/erbighenti.h"
 
@@ -34,7 +36,7 @@ static uint16_t *run(uint32_t length)
 }
 
 /* The stack below this function's caller, filled with a pattern by `paint`, and after a call looked at again: what was overwritten was used. */
-enum { DEPTH = 1 << 20, PATTERN = 0xa5 };
+enum { DEPTH = 1 << 21, PATTERN = 0xa5 };
 
 static __attribute__((noinline)) void paint(void)
 {
@@ -52,29 +54,57 @@ static __attribute__((noinline)) size_t used(void)
     return DEPTH - k;
 }
 
+/* what the words come to, so that a changed one is seen */
+static uint64_t sum_of(const uint16_t *words, uint32_t length)
+{
+    uint64_t sum = 14695981039346656037u;
+    for (uint32_t k = 0; k < length; k++)
+        sum = (sum ^ words[k]) * 1099511628211u;
+    return sum;
+}
+
+static void show_area(const uint16_t *area, uint32_t length, uint64_t written)
+{
+    uint32_t behind = 0;
+    for (uint64_t k = written; k < length; k++)
+        behind += area[k] != 0;
+    printf(" %llu %u", (unsigned long long)written, behind);
+    for (uint64_t k = 0; k < written && k < length; k++)
+        printf(" %u", area[k]);
+}
+
 int main(void)
 {
     uint32_t head[8];
     while (full(head, sizeof head)) {
         uint16_t *nodes = run(head[1]), *rules = run(head[2]), *connections = run(head[3]), *words = run(head[4]);
-        uint64_t value = 0;
+        uint64_t value = 0, written = 0;
+        uint64_t tables = sum_of(nodes, head[1]) ^ sum_of(rules, head[2]) * 3 ^ sum_of(connections, head[3]) * 5;
         uint16_t number = 0;
         uint32_t what = head[0] & 15, measured = head[0] & 16;
         if (measured)
             paint();
         long began = clock();
         for (uint32_t k = 0; k < head[7]; k++) {
-            value = 77;
+            value = written = 77;
             if (what == 1)
                 number = erbighenti_check(nodes, head[1], rules, head[2], connections, head[3], words, head[4], &value);
             else if (what == 2)
                 number = erbighenti_distance(nodes, head[1], rules, head[2], connections, head[3], (uint16_t)head[5], (uint16_t)head[6], &value);
+            else if (what == 3)
+                number = erbighenti_query(nodes, head[1], rules, head[2], connections, head[3], (uint16_t)head[5], (uint16_t)head[6], words, head[4],
+                                          &value, &written);
         }
         size_t stack = measured ? used() : 0;
         printf("%u %llu %ld", number, (unsigned long long)value, clock() - began);
         if (measured)
             printf(" %lu", (unsigned long)stack);
+        if (what == 3)
+            show_area(words, head[4], written);
         printf("\n");
+        /* no call changes the tables */
+        if (tables != (sum_of(nodes, head[1]) ^ sum_of(rules, head[2]) * 3 ^ sum_of(connections, head[3]) * 5))
+            exit(3);
         free(nodes), free(rules), free(connections), free(words);
     }
     return 0;

@@ -2,7 +2,7 @@
 import os, platform, struct, subprocess
 
 TOP = os.path.dirname(os.path.dirname(os.path.abspath(__file__)))
-CHECK, DISTANCE = 1, 2
+CHECK, DISTANCE, QUERY = 1, 2, 3
 MEASURED = 16                    # added to one of them: how many bytes of stack it used is a fourth number of the answer
 
 
@@ -34,7 +34,7 @@ def case(what, nodes, rules, connections, words=(), left=0, right=0, times=1):
 
 
 def call(driver, cases):
-    """The answers, (number, value, microseconds) each."""
+    """The answers, (number, value, microseconds) each; behind a query's the words written, how many behind them are not zero, and the words."""
     out = subprocess.run([os.path.join(TOP, 'launch'), driver], input=b''.join(cases), capture_output=True)
     if out.returncode:
         raise SystemExit(f'the driver ended with status {out.returncode}: {out.stderr[-300:]!r}')

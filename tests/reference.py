@@ -168,6 +168,15 @@ def distance(nodes, rules, connections, left, right):
     return d
 
 
+def query(nodes, rules, connections, left, right, area):
+    """The distance and the words of the flat proof, if they fit into an area of so many words."""
+    d = distance(nodes, rules, connections, left, right)
+    words = [w for t in judge_tables(nodes, rules, connections).flat_proof(left, right) for w in term_words(t)]
+    if len(words) > min(area, WORDS):
+        raise Refused(11)
+    return d, words
+
+
 # The strict checker, over flat words: four a node (operator, count, mark, rule).
 
 def term_end(words, at):

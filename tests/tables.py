@@ -1,5 +1,6 @@
 """Tables for tests and benchmarks: nodes, connections, and the pair to ask for. A node is (operator, [children..]), a connection its five words."""
 import random
+from reference import distance
 
 
 def by_rule(a, b, rule=7, forward=1):
@@ -59,3 +60,45 @@ def tied():
     nodes = [(1, [])] * 6 + [(2, [i % 6, (i + 1) % 6]) for i in range(60)]
     links = [by_rule(i, i + 1) for i in range(5)] + [congruent(6 + i, 7 + i) for i in range(59)]
     return nodes, links, 6, 65
+
+
+def nested(levels):
+    """two unary terms over two leaves that a rule joins: so many congruences, each inside the next"""
+    nodes, links = [(1, []), (2, [])], [by_rule(0, 1)]
+    for k in range(levels):
+        nodes += [(3, [2 * k]), (3, [2 * k + 1])]
+        links.append(congruent(2 * k + 2, 2 * k + 3))
+    return nodes, links, 2 * levels, 2 * levels + 1
+
+
+def leaning(pairs, shared):
+    """nested congruences of which the upper ones share their right node f(y), with y joined to it by a rule: a term more at each of them"""
+    nodes, links, x, y = nested(pairs)
+    z = len(nodes)
+    nodes.append((3, [y]))
+    links.append(by_rule(y, z))
+    for _ in range(shared):
+        nodes.append((3, [x]))
+        links.append(congruent(len(nodes) - 1, z))
+        x = len(nodes) - 1
+    return nodes, links, x, z
+
+
+def random_table(rng):
+    """small tables in which most entries are good"""
+    nodes = []
+    for n in range(rng.randrange(1, 14)):
+        kids = [rng.randrange(n) for _ in range(rng.choice((0, 1, 1, 2, 2, 3)))] if n else []
+        nodes.append((rng.randrange(1, 3), kids if rng.random() < 0.98 else kids + [n + rng.randrange(2)]))
+    links = []
+    for _ in range(rng.randrange(0, 16)):
+        a, b = rng.randrange(len(nodes) + (rng.random() < 0.02)), rng.randrange(len(nodes))
+        c = rng.choice((congruent(a, b), by_rule(a, b, rng.randrange(9), rng.randrange(2)), by_rule(a, b)))
+        try:
+            distance(nodes, [], links + [c], 0, 0)
+            links.append(c)
+        except Exception as refusal:
+            # keep one bad connection now and then: it decides
+            if getattr(refusal, 'number', 0) in (6, 7, 2) and rng.random() < 0.02:
+                links.append(c)
+    return nodes, links

@@ -49,13 +49,14 @@ module _ (t : Tables) (l r : ℕ) where
 
 -- what is there once a distance was found
 pub ways : {nws cws rows rows′ : List ℕ} {l r : ℕ} → Supported nws (nodesIn nws) cws (length cws / connectionWords) → Between nws cws l r →
-    Charged (listed cws) (nodesIn nws) rows → rows′ ≡ priced (nodesOf nws) cws (length cws / connectionWords) rows → Ways nws cws l r rows′
-ways {nws} {cws} {rows} s b c e =
+    dist (nodesOf nws) (listed cws) l r ≤ distanceLimit → Charged (listed cws) (nodesIn nws) rows → rows′ ≡ priced (nodesOf nws) cws (length cws / connectionWords) rows → Ways nws cws l r rows′
+ways {nws} {cws} {rows} s b h c e =
     let k = length cws / connectionWords in
     let r = rooted s in
     rw e
     record {
       between = b;
+      near = h;
       charged = charged-priced (nodesOf nws) cws c k (r .within) (r .forest) k (omega arith);
       filled = filled-priced (nodesOf nws) cws c k (r .within) (r .forest) k (omega arith);
     }

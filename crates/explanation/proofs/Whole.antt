@@ -68,6 +68,7 @@ parts nws rws cws t e = parts-by nws rws cws t (nodeTable nws) refl (ruleTable r
 
 -- what climbing wants of them
 pub record Whole (nws rws cws : List ℕ) (t : Tables) : Type 0 where
+  pub table : NodesWhole nws
   pub support : Supported nws (length nws / nodeWords) cws (length cws / connectionWords)
   pub nodes : t .nodes ≡ nodesOf nws
   pub conns : t .conns ≡ listed cws
@@ -83,6 +84,7 @@ whole nws rws cws t e =
     let b = connections (nodesOf nws) cws k (t .conns) c in
     let q : k ≡ length cws / connectionWords = omega (arith, b .room) in
     record {
+      table = a;
       support = record { table = a .stand; accepted = subst (λ (m : ℕ). Accepted (nodesOf nws) (oldest m cws)) q (b .accepted) };
       nodes = ns;
       conns = b .is ∙ ap (λ (m : ℕ). oldest m cws) q;

@@ -1,11 +1,13 @@
 -- The distance of a pair over the words of accepted tables.
 -- Assumes nothing.
-use Prim.Native.Nat.{ℕ, _/_}
+use Prim.Native.Nat.{ℕ, _/_, _≤_}
 use mathlib.Core.List.{List}
 use mathlib.Core.Path.{_≡_}
 use lib.ListN.{length}
 use Rattle.model.specs.declared.Measured.{Measured}
 use Rattle.model.specs.declared.Measured.the-variants.{Distance, Unmeasured}
+use Rattle.model.specs.Limits.{distanceLimit}
+use Rattle.model.specs.Forest.{dist}
 use Rattle.model.specs.Query.{Tables, measure}
 use Rattle.model.specs.Tables.{connectionWords}
 use Rattle.entries.specs.Nodes.{nodesOf}
@@ -17,9 +19,11 @@ abbrev pub Measures : List ℕ → List ℕ → ℕ → ℕ → Measured → Typ
 Measures nws cws l r m =
     (t : Tables) → t .nodes ≡ nodesOf nws → t .conns ≡ listed cws → m ≡ measure t l r
 
--- What is there then for whoever writes the proof: two joined nodes, and rows to climb by, with their costs. Nothing where it is refused.
+-- What is there then for whoever writes the proof: two joined nodes, within the limit of each other, and rows to climb by, with
+-- their costs. Nothing where it is refused.
 pub record Ways (nws cws : List ℕ) (l r : ℕ) (rows : List ℕ) : Type 0 where
   pub between : Between nws cws l r
+  pub near : dist (nodesOf nws) (listed cws) l r ≤ distanceLimit
   pub charged : Charged (listed cws) (nodesIn nws) rows
   pub filled : Filled (nodesOf nws) cws rows (length cws / connectionWords)
 

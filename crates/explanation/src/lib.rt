@@ -1,23 +1,30 @@
 // The face: entry points over tables handed in whole. They take any words, end, and refuse by document 01's numbers.
 // The tables are u16 words: a node is 10, a rule 387, a connection 5 (their layouts are in crate model, specs/Tables.antt).
 use forest::TABLE_WORDS;
+use model::Answer;
 use model::DISTANCE_LIMIT;
 use model::Judgement;
 use model::Measured;
+use model::NODE_LIMIT;
 use model::NODE_WORDS;
 use model::NodeNo;
 use model::Verdict;
+use model::WORD_LIMIT;
 use model::wide;
+use trees::clear_from;
 ghost use mathlib.Core.Path.{_≡_};
 ghost use Prim.Native.Nat.{_/_};
 ghost use lib.ListN.{length};
 ghost use Rattle.model.specs.Judged.{judgementOf};
-ghost use Rattle.model.specs.Query.{measureReport};
-ghost use Rattle.model.specs.Tables.{nodeWords, connectionWords, judgeTables, measureBy, verdictBy};
+ghost use Rattle.model.specs.declared.Measured.the-variants.{Distance};
+ghost use Rattle.model.specs.Query.{measureReport, answerReport};
+ghost use Rattle.model.specs.Tables.{nodeWords, connectionWords, judgeTables, measureBy, answerBy, areaOf, verdictBy};
 ghost use Rattle.model.specs.Verdict.{reportOf};
 ghost use Rattle.entries.specs.Connections.{Supported};
+ghost use Rattle.entries.specs.Nodes.{NodesWhole};
 ghost use Rattle.forest.specs.Rows.{tableWords};
-ghost use Rattle.explanation.specs.Measure.{Measures, Routed};
+ghost use Rattle.explanation.specs.Measure.{Measures, Ways, Routed};
+ghost use Rattle.explanation.specs.Query.{Answers};
 
 // Tables handed in whole are judged before all else: nodes, rules, connections; the first bad entry decides.
 fn judge_tables(nodes: &[u16], rules: &[u16], connections: &[u16]) -> Judgement
@@ -94,6 +101,91 @@ pub fn distance(
     measure(nodes, connections, left, right, &mut rows)
 }
 
+// Writes the proof of two joined nodes of accepted tables in front of the area: 11, or the distance and the words written.
+fn write_answer(
+    nodes: &[u16],
+    connections: &[u16],
+    rows: &[u16; TABLE_WORDS],
+    distance: usize,
+    left: NodeNo,
+    right: NodeNo,
+    area: &mut [u16],
+) -> Answer
+    requires { ⌜ NodesWhole (now nodes) × Supported (now nodes) (length (now nodes) / nodeWords) (now connections) (length (now connections) / connectionWords) ⌝ }
+    requires { ⌜ Measures (now nodes) (now connections) (left .0) (right .0) (Distance distance) × Ways (now nodes) (now connections) (left .0) (right .0) (now rows) ⌝ }
+    ensures { λ r. ⌜ Answers (now (nodes .entry)) (now (connections .entry)) (now (area .entry)) (left .0) (right .0) r (now (area .exit)) ⌝ }
+{
+    let mut sizes = [0u32; NODE_LIMIT];
+    trees::fill_sizes(nodes, &mut sizes);
+    let w = needs::words_needed(nodes, connections, rows, &sizes, left, right);
+    if w > WORD_LIMIT {
+        return Answer::Refused(11);
+    }
+    if w > area.len() {
+        return Answer::Refused(11);
+    }
+    writer::write_proof(
+        nodes,
+        connections,
+        rows,
+        &sizes,
+        &mut area[..w],
+        left,
+        right,
+    );
+    Answer::Written(distance, w)
+}
+
+// A query over accepted tables: 8, 9, 10, 11, or the distance and the words written, the proof then in front of the area.
+fn answer(
+    nodes: &[u16],
+    connections: &[u16],
+    left: NodeNo,
+    right: NodeNo,
+    area: &mut [u16],
+) -> Answer
+    requires { ⌜ NodesWhole (now nodes) × Supported (now nodes) (length (now nodes) / nodeWords) (now connections) (length (now connections) / connectionWords) ⌝ }
+    ensures { λ r. ⌜ Answers (now (nodes .entry)) (now (connections .entry)) (now (area .entry)) (left .0) (right .0) r (now (area .exit)) ⌝ }
+{
+    let mut rows = [0u16; TABLE_WORDS];
+    let measured = measure(nodes, connections, left, right, &mut rows);
+    match measured {
+        Measured::Unmeasured(number) => Answer::Refused(number),
+        Measured::Distance(d) => write_answer(nodes, connections, &rows, d, left, right, area),
+    }
+}
+
+// A query over tables handed in whole: the distance and the words written, or the refusal. Behind a written proof the area is zero, and
+// after a refusal all of it, whatever it held.
+pub fn query(
+    nodes: &[u16],
+    rules: &[u16],
+    connections: &[u16],
+    left: NodeNo,
+    right: NodeNo,
+    area: &mut [u16],
+) -> Answer
+    ensures { λ r. ⌜ r ≡ answerBy (judgeTables (now (nodes .entry)) (now (rules .entry)) (now (connections .entry))) (length (now (area .entry))) (left .0) (right .0) ⌝ }
+    ensures { λ _. ⌜ now (area .exit) ≡ areaOf (judgeTables (now (nodes .entry)) (now (rules .entry)) (now (connections .entry))) (length (now (area .entry))) (left .0) (right .0) ⌝ }
+{
+    let judged = judge_tables(nodes, rules, connections);
+    if let Judgement::Faulty(number) = judged {
+        clear_from(area, 0);
+        return Answer::Refused(number);
+    }
+    let a = answer(nodes, connections, left, right, area);
+    match a {
+        Answer::Written(d, w) => {
+            clear_from(area, w);
+            Answer::Written(d, w)
+        }
+        Answer::Refused(number) => {
+            clear_from(area, 0);
+            Answer::Refused(number)
+        }
+    }
+}
+
 // The same for C: the number is returned (0 for success), the count of terms or the place stands behind `value`.
 #[no_mangle]
 pub extern "C" fn erbighenti_check(
@@ -140,6 +232,38 @@ pub extern "C" fn erbighenti_distance(
         }
         Measured::Unmeasured(number) => {
             *value = 0;
+            number
+        }
+    }
+}
+
+// The query for C: the number is returned (0 for success), the distance and the words written stand behind the two (0 where it is refused).
+#[no_mangle]
+pub extern "C" fn erbighenti_query(
+    nodes: &[u16],
+    rules: &[u16],
+    connections: &[u16],
+    left: u16,
+    right: u16,
+    area: &mut [u16],
+    distance: &mut u64,
+    written: &mut u64,
+) -> u16
+    ensures { λ r. ⌜ r ≡ answerReport (answerBy (judgeTables (now (nodes .entry)) (now (rules .entry)) (now (connections .entry))) (length (now (area .entry))) left right) .number ⌝ }
+    ensures { λ _. ⌜ now (distance .exit) ≡ answerReport (answerBy (judgeTables (now (nodes .entry)) (now (rules .entry)) (now (connections .entry))) (length (now (area .entry))) left right) .distance ⌝ }
+    ensures { λ _. ⌜ now (written .exit) ≡ answerReport (answerBy (judgeTables (now (nodes .entry)) (now (rules .entry)) (now (connections .entry))) (length (now (area .entry))) left right) .written ⌝ }
+    ensures { λ _. ⌜ now (area .exit) ≡ areaOf (judgeTables (now (nodes .entry)) (now (rules .entry)) (now (connections .entry))) (length (now (area .entry))) left right ⌝ }
+{
+    let answer = query(nodes, rules, connections, NodeNo(left), NodeNo(right), area);
+    match answer {
+        Answer::Written(d, w) => {
+            *distance = d as u64;
+            *written = w as u64;
+            0
+        }
+        Answer::Refused(number) => {
+            *distance = 0;
+            *written = 0;
             number
         }
     }

@@ -147,7 +147,7 @@ returns-5 c =
           ap Distance d
           ∙ near t (a .left .0) (a .right .0) (omega (arith, m, inside e .left)) (omega (arith, m, inside e .right)) (rw cs (same k))
           (subst (λ (x : ℕ). x ≤ distanceLimit) d (c .if4 .left)),
-      ways (s .pre .0) (between k) (charged (at-rows k)) (c .before .distance .ensures .1),
+      ways (s .pre .0) (between k) (omega (arith, c .before .distance .ensures .0)) (charged (at-rows k)) (c .before .distance .ensures .1),
     )
 
 pub measure-spec : {M : Type 1} → statement M
