@@ -4,6 +4,7 @@ use mathlib.Core.List.{List, [], _∷_, _++_, append-assoc, append-nil}
 use mathlib.Core.Path.{_≡_, refl, sym, ap, ap₂, subst, subst₂, _∙_}
 use native.Mathlib.Omega.{arith}
 use lib.ListN.{length, getD, length-append}
+use Rattle.model.specs.declared.NodeNo.{NodeNo}
 use Rattle.model.specs.Limits.{distanceLimit, wordLimit, flatWords}
 use Rattle.model.specs.Node.{Node, opOf, kidsOf, row, termOf}
 use Rattle.model.specs.Term.{Term, Terms, noTerms, one, words, count, join}
@@ -25,7 +26,7 @@ use Rattle.trees.specs.declared.Spot.{Spot}
 use Rattle.trees.proofs.Around.{around-join, around-within}
 use Rattle.trees.proofs.Bare.{whole-words, bare-term, bare-terms}
 use Rattle.writer.specs.Appends.{termWords, twinTerms}
-use Rattle.writer.specs.Written.{Ran, Wrote}
+use Rattle.writer.specs.Written.{postOf, preOf, Ran, Wrote}
 use Rattle.writer.proofs.Part.{Part, Whole, part-end, part-long, part-ran, part-stands}
 use Rattle.writer.proofs.Stands.{Stands, Plain, plain-append, ran-long, ran-none}
 
@@ -223,3 +224,15 @@ twin-start nodes conns age a b n ok ha hb ea eb {p} {q} {area} {start} {place} {
     (xs ∙ sym (left-all nodes (a * nodeWords + childrenAt) n)) (ys ∙ sym (left-all nodes (b * nodeWords + childrenAt) n))
     (children-none ok a refl
     (ap length xs ∙ words-long nodes (a * nodeWords + childrenAt) n) (kidsOf ns b) refl s i j)
+
+-- the children still to come, of a node with n
+abbrev pub toCome : List ℕ → ℕ → ℕ → ℕ → List ℕ
+toCome nodes a n i = left nodes (a * nodeWords + childrenAt) n i
+
+-- the run from node a to b, of which the pairs xs and ys are still to come
+abbrev pub State : List ℕ → List ℕ → ℕ → NodeNo → NodeNo → ℕ → List ℕ → Spot → List ℕ → List ℕ → List ℕ → ℕ → ℕ → ℕ → Type 0
+State nodes conns age a b n area₀ spot xs ys area front back end =
+    let ns = nodesOf nodes in
+    Rewriting ns (later ns (oldest age conns)) (opOf ns (a .0)) n (twinTerms ns conns age (a .0) (b .0))
+    (preOf area₀ spot (length (termWords ns (a .0)))) (postOf area₀ spot) area₀ (spot .end)
+    xs ys area (spot .place + front) (spot .post + back) end

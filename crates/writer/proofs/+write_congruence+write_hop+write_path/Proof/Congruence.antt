@@ -6,9 +6,8 @@ use mathlib.Core.Path.{_≡_, refl, sym, ap, subst₂, _∙_}
 use lib.ListN.{length}
 use Rattle.model.specs.Forest.{root}
 use Rattle.model.specs.Limits.{wordLimit}
-use Rattle.model.specs.Node.{opOf, termOf}
+use Rattle.model.specs.Node.{termOf}
 use Rattle.model.specs.Tables.{childrenAt, nodeWords}
-use Rattle.model.specs.Flat.{later}
 use Rattle.terms.proofs.Rows.{one-long}
 use Rattle.entries.specs.Connections.{oldest}
 use Rattle.entries.specs.Nodes.{countIn, nodesOf}
@@ -19,23 +18,15 @@ use Rattle.writer.specs.Written.{postOf, preOf, Kept, Reached, Wrote}
 use Rattle.writer.proofs.Begun.{accepted-nodes, leads}
 use Rattle.writer.proofs.Kept.{kept-all, kept-more}
 use Rattle.writer.proofs.Part.{Whole, part-asked}
-use Rattle.writer.proofs.Rewriting.{Fits, Rewriting, child-few, child-fits, child-fits-after, child-next, child-part, children-all, children-long, exact, twin-start}
+use Rattle.writer.proofs.Rewriting.{Fits, State, child-few, child-fits, child-fits-after, child-next, child-part, children-all, children-long, exact, toCome, twin-start}
 use Rattle.writer.proofs.Stands.{cut, length-post, length-pre, post-plain, pre-plain, ran-long}
 use Rattle.writer.proofs.write_congruence.Reads as write-congruence
 use Rattle.writer.proofs.+write_congruence+write_hop+write_path.Lts-write_congruence as lts
 use Rattle.writer.proofs.+write_congruence+write_hop+write_path.Proof.Claims.{write-congruence-at, congruence-claims}
 
--- the children still to come, of a node with n
-abbrev toCome : List ℕ → ℕ → ℕ → ℕ → List ℕ
-toCome nodes a n i = left nodes (a * nodeWords + childrenAt) n i
-
 abbrev Inv-loop : lts.InvT-loop
 Inv-loop nodes conns rows sizes trail₀ used area₀ spot age a b n front₀ back₀ end₀ i₀ trail area front back end i =
-    let ns = nodesOf nodes in
-    Kept used trail₀ trail
-    × Rewriting ns (later ns (oldest age conns)) (opOf ns (a .0)) n (twinTerms ns conns age (a .0) (b .0))
-    (preOf area₀ spot (length (termWords ns (a .0)))) (postOf area₀ spot) area₀ (spot .end)
-    (toCome nodes (a .0) n i) (toCome nodes (b .0) n i) area (spot .place + front) (spot .post + back) end
+    Kept used trail₀ trail × State nodes conns age a b n area₀ spot (toCome nodes (a .0) n i) (toCome nodes (b .0) n i) area front back end
 
 abbrev μ-loop : lts.MeasureT-loop
 μ-loop nodes conns rows sizes trail₀ used area₀ spot age a b n front₀ back₀ end₀ i₀ trail area front back end i = n - i
@@ -133,24 +124,18 @@ module _ (t : ℕ) where
       let l = loop c in
       let a = start l .args in
       let n = l .before .before .count-of .result in
-      let ns = nodesOf (a .nodes .now) in
-      Rewriting ns (later ns (oldest (a .age) (a .conns .now))) (opOf ns (a .a .0)) n (twinTerms ns (a .conns .now) (a .age) (a .a .0) (a .b .0))
-      (preOf (a .area .now) (a .spot) (length (termWords ns (a .a .0)))) (postOf (a .area .now) (a .spot)) (a .area .now) (a .spot .end)
+      State (a .nodes .now) (a .conns .now) (a .age) (a .a) (a .b) n (a .area .now) (a .spot)
       (c .before .child-of .result .0 ∷ toCome (a .nodes .now) (a .a .0) n (l .loop .i + 1))
-      (c .child-of2 .result .0 ∷ toCome (a .nodes .now) (a .b .0) n (l .loop .i + 1))
-      (l .loop .area) (a .spot .place + l .loop .front) (a .spot .post + l .loop .back) (l .loop .end)
+      (c .child-of2 .result .0 ∷ toCome (a .nodes .now) (a .b .0) n (l .loop .i + 1)) (l .loop .area) (l .loop .front) (l .loop .back) (l .loop .end)
   state c =
       let l = loop c in
       let a = start l .args in
       let n = l .before .before .count-of .result in
-      let ns = nodesOf (a .nodes .now) in
       let i = l .loop .i in
       let h = c .before .before .loop-test .taken in
       subst₂
       (λ (xs ys : List ℕ).
-      Rewriting ns (later ns (oldest (a .age) (a .conns .now))) (opOf ns (a .a .0)) n (twinTerms ns (a .conns .now) (a .age) (a .a .0) (a .b .0))
-      (preOf (a .area .now) (a .spot) (length (termWords ns (a .a .0)))) (postOf (a .area .now) (a .spot)) (a .area .now) (a .spot .end)
-      xs ys (l .loop .area) (a .spot .place + l .loop .front) (a .spot .post + l .loop .back) (l .loop .end))
+      State (a .nodes .now) (a .conns .now) (a .age) (a .a) (a .b) n (a .area .now) (a .spot) xs ys (l .loop .area) (l .loop .front) (l .loop .back) (l .loop .end))
       (left-next (a .nodes .now) (a .a .0 * nodeWords + childrenAt) n i h ∙ ap (λ (x : ℕ). x ∷ toCome (a .nodes .now) (a .a .0) n (i + 1)) (sym (c .before .child-of .ensures)))
       (left-next (a .nodes .now) (a .b .0 * nodeWords + childrenAt) n i h ∙ ap (λ (y : ℕ). y ∷ toCome (a .nodes .now) (a .b .0) n (i + 1)) (sym (c .child-of2 .ensures)))
       (l .loop .inv .1)
