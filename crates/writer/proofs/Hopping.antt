@@ -47,12 +47,14 @@ module _ (ns : List Node) (conns : List ℕ) (bound r : ℕ) (f : Terms) (p q ar
     pub whole : join done (join (legTerms ns conns age up) (rowOf ns conns todo)) ≡ f
     pub lies : Lies new turn used todo (top - 1)
 
-  pub next : {new now : List ℕ} {top end age : ℕ} {up : Bool} → Hopping new now top end → used < top → age ≡ getD new (top - 1) 0 →
-      up ≡ leb turn (top - 1) → Next new now top end age up
-  next {new} {now} {top} {end} {age} {up} h lt a u = go (h .todo) (h .lies) (h .chain) (h .whole)
+module _ {ns : List Node} {conns : List ℕ} {bound r : ℕ} {f : Terms} {p q area : List ℕ} {start turn used : ℕ} {new now : List ℕ} {top end : ℕ}
+    (h : Hopping ns conns bound r f p q area start turn used new now top end) where
+  pub next : {age : ℕ} {up : Bool} → used < top → age ≡ getD new (top - 1) 0 → up ≡ leb turn (top - 1) →
+      Next ns conns bound r f p q area start turn used new now top end age up
+  next {age} {up} lt a u = go (h .todo) (h .lies) (h .chain) (h .whole)
     where
       go : (hs : List Leg) → Lies new turn used hs top → Chain ns conns bound (h .at) r hs → join (h .done) (rowOf ns conns hs) ≡ f →
-          Next new now top end age up
+          Next ns conns bound r f p q area start turn used new now top end age up
       go [] l c w = absurd (omega arith)
       go (g ∷ hs) l c w =
           let e : g ≡ record { age = age; up = up } = λ i. record { age = sym (a ∙ l .1) i; up = sym (u ∙ l .2) i } in
@@ -68,29 +70,37 @@ module _ (ns : List Node) (conns : List ℕ) (bound r : ℕ) (f : Terms) (p q ar
             lies = l .3;
           }
 
-  module _ (a : Plain p) (b : Plain q) where
-    -- it is a part of the run, at a spot
-    pub part : {new now : List ℕ} {top age : ℕ} {up : Bool} (s : Spot) → length p ≡ s .place → length q ≡ s .post → Next new now top (s .end) age up →
-        Part p q area start f now s p (termWords ns (startOf (connectionIn conns age) up .0)) q (legTerms ns conns age up) (legTerms ns conns age up)
-    part {age = age} {up = up} s lp lq n =
-        record {
-          done = n .done;
-          rest = rowOf ns conns (n .todo);
-          ran = n .ran;
-          whole = n .whole;
-          stands = n .stands;
-          place-is = lp;
-          post-is = lq;
-          pre-plain = a;
-          here = whole-words (one (termOf ns (startOf (connectionIn conns age) up .0)));
-          post-plain = b;
-          same = refl;
-        }
+  -- nothing lies on the trail: all is written
+  pub hopped : top ≤ used → Ran p q area start f now end
+  hopped le = go (h .todo) (h .lies) (h .whole)
+    where
+      go : (hs : List Leg) → Lies new turn used hs top → join (h .done) (rowOf ns conns hs) ≡ f → Ran p q area start f now end
+      go [] l w = subst (λ (g : Terms). Ran p q area start g now end) (sym (join-none (h .done)) ∙ w) (h .ran)
+      go (g ∷ hs) l w = let lt = l .0 in absurd (omega arith)
 
-  -- what lies on the trail, and the next leg's own terms, are within the limit
-  pub few : {new now : List ℕ} {top end age : ℕ} {up : Bool} → used < top → Next new now top end age up → used + count f ≤ distanceLimit →
-      top - 1 + count (legTerms ns conns age up) ≤ distanceLimit
-  few {new} {top = top} {age = age} {up = up} lt n c =
+module _ {ns : List Node} {conns : List ℕ} {bound r : ℕ} {f : Terms} {p q area : List ℕ} {start turn used : ℕ} {new now : List ℕ} {top end : ℕ} {age : ℕ} {up : Bool}
+    (n : Next ns conns bound r f p q area start turn used new now top end age up) where
+  -- the next leg is a part of the run, at a spot
+  pub part : Plain p → Plain q → (s : Spot) → length p ≡ s .place → length q ≡ s .post → s .end ≡ end →
+      Part p q area start f now s p (termWords ns (startOf (connectionIn conns age) up .0)) q (legTerms ns conns age up) (legTerms ns conns age up)
+  part a b s lp lq e =
+      record {
+        done = n .done;
+        rest = rowOf ns conns (n .todo);
+        ran = rw e (n .ran);
+        whole = n .whole;
+        stands = rw e (n .stands);
+        place-is = lp;
+        post-is = lq;
+        pre-plain = a;
+        here = whole-words (one (termOf ns (startOf (connectionIn conns age) up .0)));
+        post-plain = b;
+        same = refl;
+      }
+
+  -- what lies on the trail, and the leg's own terms, are within the limit
+  pub few : used < top → used + count f ≤ distanceLimit → top - 1 + count (legTerms ns conns age up) ≤ distanceLimit
+  few lt c =
       let g = legTerms ns conns age up in
       let rest = rowOf ns conns (n .todo) in
       omega (
@@ -101,13 +111,6 @@ module _ (ns : List Node) (conns : List ℕ) (bound r : ℕ) (f : Terms) (p q ar
         count-join (n .done) (join g rest),
         count-join g rest,
       )
-
-  pub hopped : {new now : List ℕ} {top end : ℕ} → Hopping new now top end → top ≤ used → Ran p q area start f now end
-  hopped {new} {now} {top} {end} h le = go (h .todo) (h .lies) (h .whole)
-    where
-      go : (hs : List Leg) → Lies new turn used hs top → join (h .done) (rowOf ns conns hs) ≡ f → Ran p q area start f now end
-      go [] l w = subst (λ (g : Terms). Ran p q area start g now end) (sym (join-none (h .done)) ∙ w) (h .ran)
-      go (g ∷ hs) l w = let lt = l .0 in absurd (omega arith)
 
 -- What a path writer starts with: what it was asked, and the path on the trail.
 pub record Begun (ns : List Node) (conns : List ℕ) (bound : ℕ) (s : Spot) (area trail : List ℕ) (used turn top l r : ℕ) : Type 0 where
@@ -152,13 +155,12 @@ module _ {ns : List Node} {conns : List ℕ} {bound : ℕ} {s : Spot} {area trai
 
     abbrev this : Part p q area (s .end) f now at p (termWords ns (startOf (connectionIn conns age) up .0)) q (legTerms ns conns age up) (legTerms ns conns age up)
     this =
-        part ns conns bound r f p q area (s .end) turn used (pre-plain (b .asked .stood)) (post-plain (b .asked .stood)) at
-        (length-pre (b .asked .stood)) (length-post (b .asked .stood)) n
+        part n (pre-plain (b .asked .stood)) (post-plain (b .asked .stood)) at (length-pre (b .asked .stood)) (length-post (b .asked .stood)) refl
 
     pub hopping-asked : {old : List ℕ} → length old ≡ termLimit →
         Asked old now at (termWords ns (startOf (connectionIn conns age) up .0)) (legTerms ns conns age up) (top - 1)
     hopping-asked long =
-        part-asked this whole long (top - 1) (few ns conns bound r f p q area (s .end) turn used lt n (b .asked .few))
+        part-asked this whole long (top - 1) (few n lt (b .asked .few))
 
     pub hopping-next : {later-trail after : List ℕ} {to : ℕ} → take (top - 1) later-trail ≡ take (top - 1) new →
         Wrote now at (termWords ns (startOf (connectionIn conns age) up .0)) (legTerms ns conns age up) after to →

@@ -4,6 +4,7 @@ use mathlib.Core.List.{List, [], _∷_, _++_, append-assoc, append-nil}
 use mathlib.Core.Path.{_≡_, refl, sym, ap, ap₂, subst, subst₂, _∙_}
 use native.Mathlib.Omega.{arith}
 use lib.ListN.{length, getD, length-append}
+use Rattle.model.specs.declared.NodeNo.{NodeNo}
 use Rattle.model.specs.Limits.{distanceLimit, wordLimit, flatWords}
 use Rattle.model.specs.Node.{Node, opOf, kidsOf, row, termOf}
 use Rattle.model.specs.Term.{Term, Terms, noTerms, one, words, count, join}
@@ -25,7 +26,7 @@ use Rattle.trees.specs.declared.Spot.{Spot}
 use Rattle.trees.proofs.Around.{around-join, around-within}
 use Rattle.trees.proofs.Bare.{whole-words, bare-term, bare-terms}
 use Rattle.writer.specs.Appends.{termWords, twinTerms}
-use Rattle.writer.specs.Written.{Ran, Wrote}
+use Rattle.writer.specs.Written.{postOf, preOf, Ran, Wrote}
 use Rattle.writer.proofs.Part.{Part, Whole, part-end, part-long, part-ran, part-stands}
 use Rattle.writer.proofs.Stands.{Stands, Plain, plain-append, ran-long, ran-none}
 
@@ -62,10 +63,11 @@ module _ (ns : List Node) (proof : ℕ → ℕ → Terms) (o n : ℕ) (f : Terms
     pub place-is : place ≡ length p + (flatWords + length (words before))
     pub post-is : post ≡ length (words (row (termOf ns) xs)) + length q
 
+module _ {ns : List Node} {proof : ℕ → ℕ → Terms} {o n : ℕ} {f : Terms} {p q area : List ℕ} {start : ℕ} where
   -- at the start all pairs are: the left node's term stands there
   pub children-none : AcceptedNodes ns → (a : ℕ) → opOf ns a ≡ o → length (kidsOf ns a) ≡ n → (ys : List ℕ) → runs ns proof o noTerms (kidsOf ns a) ys ≡ f →
       Stands area start (p ++ (termWords ns a ++ q)) → {place post : ℕ} → place ≡ length p + flatWords → post + flatWords ≡ length (termWords ns a) + length q →
-      Rewriting (kidsOf ns a) ys area place post start
+      Rewriting ns proof o n f p q area start (kidsOf ns a) ys area place post start
   unfolding words count join bare
   children-none nodes a e c ys w s i j =
       let kids = row (termOf ns) (kidsOf ns a) in
@@ -86,7 +88,7 @@ module _ (ns : List Node) (proof : ℕ → ℕ → Terms) (o n : ℕ) (f : Terms
       }
 
   -- the area is as long as before
-  pub children-long : {xs ys now : List ℕ} {place post end : ℕ} → Rewriting xs ys now place post end → Whole p q area start f → length now ≡ length area
+  pub children-long : {xs ys now : List ℕ} {place post end : ℕ} → Rewriting ns proof o n f p q area start xs ys now place post end → Whole p q area start f → length now ≡ length area
   children-long {xs} {ys} k w =
       let rest = runs ns proof o (k .before) xs ys in
       let room = w .room in
@@ -97,13 +99,13 @@ module _ (ns : List Node) (proof : ℕ → ℕ → Terms) (o n : ℕ) (f : Terms
         length-append (around p q (k .done)) (around p q rest),
       ))
 
-  pub children-all : {xs ys now : List ℕ} {place post end : ℕ} → xs ≡ [] → Rewriting xs ys now place post end → Ran p q area start f now end
+  pub children-all : {xs ys now : List ℕ} {place post end : ℕ} → xs ≡ [] → Rewriting ns proof o n f p q area start xs ys now place post end → Ran p q area start f now end
   unfolding runs
   children-all {xs} {ys} {now = now} {end = end} e k =
       let none : runs ns proof o (k .before) xs ys ≡ noTerms = rw e refl in
       subst (λ (g : Terms). Ran p q area start g now end) (sym (join-none (k .done)) ∙ ap (join (k .done)) (sym none) ∙ k .whole) (k .ran)
 
-  module _ {x y : ℕ} {xs ys now : List ℕ} {place post end : ℕ} (k : Rewriting (x ∷ xs) (y ∷ ys) now place post end) where
+  module _ {x y : ℕ} {xs ys now : List ℕ} {place post end : ℕ} (k : Rewriting ns proof o n f p q area start (x ∷ xs) (y ∷ ys) now place post end) where
     abbrev behind : Terms
     behind = row (termOf ns) xs
 
@@ -176,7 +178,7 @@ module _ (ns : List Node) (proof : ℕ → ℕ → Terms) (o n : ℕ) (f : Terms
         new-words : words (join (k .before) (one (termOf ns y))) ≡ words (k .before) ++ termWords ns y
         new-words = words-join (k .before) (one (termOf ns y))
 
-        pub child-next : (new : ℕ) → new ≡ place + length (termWords ns y) → Rewriting xs ys after new (s .post) r
+        pub child-next : (new : ℕ) → new ≡ place + length (termWords ns y) → Rewriting ns proof o n f p q area start xs ys after new (s .post) r
         unfolding runs count child-part
         child-next new e =
             let t = join (k .before) (one (termOf ns y)) in
@@ -220,5 +222,17 @@ twin-start nodes conns age a b n ok ha hb ea eb {p} {q} {area} {start} {place} {
     (λ (l r : List ℕ).
     Rewriting ns (later ns (oldest age conns)) (opOf ns a) n (twinTerms ns conns age a b) p q area start l r area place post start)
     (xs ∙ sym (left-all nodes (a * nodeWords + childrenAt) n)) (ys ∙ sym (left-all nodes (b * nodeWords + childrenAt) n))
-    (children-none ns (later ns (oldest age conns)) (opOf ns a) n (twinTerms ns conns age a b) p q area start ok a refl
+    (children-none ok a refl
     (ap length xs ∙ words-long nodes (a * nodeWords + childrenAt) n) (kidsOf ns b) refl s i j)
+
+-- the children still to come, of a node with n
+abbrev pub toCome : List ℕ → ℕ → ℕ → ℕ → List ℕ
+toCome nodes a n i = left nodes (a * nodeWords + childrenAt) n i
+
+-- the run from node a to b, of which the pairs xs and ys are still to come
+abbrev pub State : List ℕ → List ℕ → ℕ → NodeNo → NodeNo → ℕ → List ℕ → Spot → List ℕ → List ℕ → List ℕ → ℕ → ℕ → ℕ → Type 0
+State nodes conns age a b n area₀ spot xs ys area front back end =
+    let ns = nodesOf nodes in
+    Rewriting ns (later ns (oldest age conns)) (opOf ns (a .0)) n (twinTerms ns conns age (a .0) (b .0))
+    (preOf area₀ spot (length (termWords ns (a .0)))) (postOf area₀ spot) area₀ (spot .end)
+    xs ys area (spot .place + front) (spot .post + back) end

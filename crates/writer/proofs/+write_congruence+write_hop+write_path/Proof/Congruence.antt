@@ -6,9 +6,8 @@ use mathlib.Core.Path.{_≡_, refl, sym, ap, subst₂, _∙_}
 use lib.ListN.{length}
 use Rattle.model.specs.Forest.{root}
 use Rattle.model.specs.Limits.{wordLimit}
-use Rattle.model.specs.Node.{opOf, termOf}
+use Rattle.model.specs.Node.{termOf}
 use Rattle.model.specs.Tables.{childrenAt, nodeWords}
-use Rattle.model.specs.Flat.{later}
 use Rattle.terms.proofs.Rows.{one-long}
 use Rattle.entries.specs.Connections.{oldest}
 use Rattle.entries.specs.Nodes.{countIn, nodesOf}
@@ -19,28 +18,36 @@ use Rattle.writer.specs.Written.{postOf, preOf, Kept, Reached, Wrote}
 use Rattle.writer.proofs.Begun.{accepted-nodes, leads}
 use Rattle.writer.proofs.Kept.{kept-all, kept-more}
 use Rattle.writer.proofs.Part.{Whole, part-asked}
-use Rattle.writer.proofs.Rewriting.{Fits, Rewriting, child-few, child-fits, child-fits-after, child-next, child-part, children-all, children-long, exact, twin-start}
+use Rattle.writer.proofs.Rewriting.{Fits, State, child-few, child-fits, child-fits-after, child-next, child-part, children-all, children-long, exact, toCome, twin-start}
 use Rattle.writer.proofs.Stands.{cut, length-post, length-pre, post-plain, pre-plain, ran-long}
 use Rattle.writer.proofs.write_congruence.Reads as write-congruence
 use Rattle.writer.proofs.+write_congruence+write_hop+write_path.Lts-write_congruence as lts
 use Rattle.writer.proofs.+write_congruence+write_hop+write_path.Proof.Claims.{write-congruence-at, congruence-claims}
 
--- the children still to come, of a node with n
-abbrev toCome : List ℕ → ℕ → ℕ → ℕ → List ℕ
-toCome nodes a n i = left nodes (a * nodeWords + childrenAt) n i
-
 abbrev Inv-loop : lts.InvT-loop
 Inv-loop nodes conns rows sizes trail₀ used area₀ spot age a b n front₀ back₀ end₀ i₀ trail area front back end i =
-    let ns = nodesOf nodes in
-    Kept used trail₀ trail
-    × Rewriting ns (later ns (oldest age conns)) (opOf ns (a .0)) n (twinTerms ns conns age (a .0) (b .0))
-    (preOf area₀ spot (length (termWords ns (a .0)))) (postOf area₀ spot) area₀ (spot .end)
-    (toCome nodes (a .0) n i) (toCome nodes (b .0) n i) area (spot .place + front) (spot .post + back) end
+    Kept used trail₀ trail × State nodes conns age a b n area₀ spot (toCome nodes (a .0) n i) (toCome nodes (b .0) n i) area front back end
 
 abbrev μ-loop : lts.MeasureT-loop
 μ-loop nodes conns rows sizes trail₀ used area₀ spot age a b n front₀ back₀ end₀ i₀ trail area front back end i = n - i
 
 module _ (t : ℕ) where
+  -- places: the loop's head, a pair of children, what a child's path left, and back to the loop's head and the function's start
+  abbrev Loop : Type 0
+  Loop = lts.At-loop (congruence-claims t) (write-congruence-at t) write-congruence.Post Inv-loop μ-loop
+
+  abbrev Pair : Type 0
+  Pair = lts.After-child-of2 (congruence-claims t) (write-congruence-at t) write-congruence.Post Inv-loop μ-loop
+
+  abbrev start : Loop → lts.Start (congruence-claims t) (write-congruence-at t) write-congruence.Post Inv-loop μ-loop
+  start c = c .before .before .before .before .before .before
+
+  abbrev loop : Pair → Loop
+  loop c = c .before .before .before
+
+  abbrev written : lts.After-words-of3 (congruence-claims t) (write-congruence-at t) write-congruence.Post Inv-loop μ-loop → lts.After-write-path (congruence-claims t) (write-congruence-at t) write-congruence.Post Inv-loop μ-loop
+  written c = c .before .before .before
+
   count-of-requires : lts.Need-count-of-requires (congruence-claims t) (write-congruence-at t) write-congruence.Post Inv-loop μ-loop
   count-of-requires c κs = c .before .before .before .pre .1 .0 .1 .twins .left-known .room
 
@@ -58,7 +65,9 @@ module _ (t : ℕ) where
       ∙ exact (s .pre .1 .0 .0 .sized) (s .args .a .0) (s .pre .1 .0 .1 .left-in) (omega (arith, k .stood .room, k .stood .fits, k .small))
 
   sub-back : lts.Need-sub-back (congruence-claims t) (write-congruence-at t) write-congruence.Post Inv-loop μ-loop
-  sub-back c = omega (arith, all-is c, one-long (termOf (nodesOf (c .before .before .before .before .before .args .nodes .now)) (c .before .before .before .before .before .args .a .0)))
+  sub-back c =
+      let a = c .before .before .before .before .before .args in
+      omega (arith, all-is c, one-long (termOf (nodesOf (a .nodes .now)) (a .a .0)))
 
   loop-holds : lts.Need-loop-holds (congruence-claims t) (write-congruence-at t) write-congruence.Post Inv-loop μ-loop
   loop-holds c =
@@ -75,26 +84,26 @@ module _ (t : ℕ) where
 
   -- another pair is left
   more : (c : lts.In-loop (congruence-claims t) (write-congruence-at t) write-congruence.Post Inv-loop μ-loop) →
-      let a = c .before .before .before .before .before .before .before .args in
+      let a = start (c .before) .args in
       c .before .loop .i < countIn (a .nodes .now) (a .a .0)
   more c = omega (arith, c .before .before .before .count-of .ensures)
 
   child-of-requires : lts.Need-child-of-requires (congruence-claims t) (write-congruence-at t) write-congruence.Post Inv-loop μ-loop
   child-of-requires c κs =
-      let m = c .before .before .before .before .before .before .before .pre .1 .0 .1 .twins in
+      let m = start (c .before) .pre .1 .0 .1 .twins in
       (m .left-known .room, omega (arith, more c, m .left-known .narrow))
 
   child-of-requires-2 : lts.Need-child-of-requires-2 (congruence-claims t) (write-congruence-at t) write-congruence.Post Inv-loop μ-loop
   child-of-requires-2 c κs =
-      let m = c .before .before .before .before .before .before .before .before .pre .1 .0 .1 .twins in
+      let m = start (c .before .before) .pre .1 .0 .1 .twins in
       (m .right-known .room, omega (arith, more (c .before), m .left-known .narrow))
 
   -- the two children, joined by the older connections
-  reached : (c : lts.After-child-of2 (congruence-claims t) (write-congruence-at t) write-congruence.Post Inv-loop μ-loop) →
-      let a = c .before .before .before .before .before .before .before .before .before .args in
+  reached : (c : Pair) →
+      let a = start (loop c) .args in
       Reached (a .nodes .now) (a .conns .now) (a .age) (c .before .child-of .result .0) (c .child-of2 .result .0)
   reached c =
-      let s = c .before .before .before .before .before .before .before .before .before in
+      let s = start (loop c) in
       let a = s .args in
       let m = s .pre .1 .0 .1 in
       let lower = s .pre .1 .0 .0 .whole .stand .lower in
@@ -111,54 +120,48 @@ module _ (t : ℕ) where
       }
 
   -- the state, by the two children that come next
-  state : (c : lts.After-child-of2 (congruence-claims t) (write-congruence-at t) write-congruence.Post Inv-loop μ-loop) →
-      let l = c .before .before .before in
-      let a = l .before .before .before .before .before .before .args in
+  state : (c : Pair) →
+      let l = loop c in
+      let a = start l .args in
       let n = l .before .before .count-of .result in
-      let ns = nodesOf (a .nodes .now) in
-      Rewriting ns (later ns (oldest (a .age) (a .conns .now))) (opOf ns (a .a .0)) n (twinTerms ns (a .conns .now) (a .age) (a .a .0) (a .b .0))
-      (preOf (a .area .now) (a .spot) (length (termWords ns (a .a .0)))) (postOf (a .area .now) (a .spot)) (a .area .now) (a .spot .end)
+      State (a .nodes .now) (a .conns .now) (a .age) (a .a) (a .b) n (a .area .now) (a .spot)
       (c .before .child-of .result .0 ∷ toCome (a .nodes .now) (a .a .0) n (l .loop .i + 1))
-      (c .child-of2 .result .0 ∷ toCome (a .nodes .now) (a .b .0) n (l .loop .i + 1))
-      (l .loop .area) (a .spot .place + l .loop .front) (a .spot .post + l .loop .back) (l .loop .end)
+      (c .child-of2 .result .0 ∷ toCome (a .nodes .now) (a .b .0) n (l .loop .i + 1)) (l .loop .area) (l .loop .front) (l .loop .back) (l .loop .end)
   state c =
-      let l = c .before .before .before in
-      let a = l .before .before .before .before .before .before .args in
+      let l = loop c in
+      let a = start l .args in
       let n = l .before .before .count-of .result in
-      let ns = nodesOf (a .nodes .now) in
       let i = l .loop .i in
       let h = c .before .before .loop-test .taken in
       subst₂
       (λ (xs ys : List ℕ).
-      Rewriting ns (later ns (oldest (a .age) (a .conns .now))) (opOf ns (a .a .0)) n (twinTerms ns (a .conns .now) (a .age) (a .a .0) (a .b .0))
-      (preOf (a .area .now) (a .spot) (length (termWords ns (a .a .0)))) (postOf (a .area .now) (a .spot)) (a .area .now) (a .spot .end)
-      xs ys (l .loop .area) (a .spot .place + l .loop .front) (a .spot .post + l .loop .back) (l .loop .end))
+      State (a .nodes .now) (a .conns .now) (a .age) (a .a) (a .b) n (a .area .now) (a .spot) xs ys (l .loop .area) (l .loop .front) (l .loop .back) (l .loop .end))
       (left-next (a .nodes .now) (a .a .0 * nodeWords + childrenAt) n i h ∙ ap (λ (x : ℕ). x ∷ toCome (a .nodes .now) (a .a .0) n (i + 1)) (sym (c .before .child-of .ensures)))
       (left-next (a .nodes .now) (a .b .0 * nodeWords + childrenAt) n i h ∙ ap (λ (y : ℕ). y ∷ toCome (a .nodes .now) (a .b .0) n (i + 1)) (sym (c .child-of2 .ensures)))
       (l .loop .inv .1)
 
   words-of-requires-2 : lts.Need-words-of-requires-2 (congruence-claims t) (write-congruence-at t) write-congruence.Post Inv-loop μ-loop
   words-of-requires-2 c κs =
-      omega (arith, reached c .left-in, c .before .before .before .before .before .before .before .before .before .pre .1 .0 .0 .whole .stand .few)
+      omega (arith, reached c .left-in, start (loop c) .pre .1 .0 .0 .whole .stand .few)
 
   -- the whole run fits, and so does what stands now
-  whole : (c : lts.At-loop (congruence-claims t) (write-congruence-at t) write-congruence.Post Inv-loop μ-loop) →
-      let a = c .before .before .before .before .before .before .args in
+  whole : (c : Loop) →
+      let a = start c .args in
       let ns = nodesOf (a .nodes .now) in
       Whole (preOf (a .area .now) (a .spot) (length (termWords ns (a .a .0)))) (postOf (a .area .now) (a .spot)) (a .area .now) (a .spot .end)
       (twinTerms ns (a .conns .now) (a .age) (a .a .0) (a .b .0))
-  whole c = let k = c .before .before .before .before .before .before .pre .1 .1 in record { room = k .room; small = k .small }
+  whole c = let k = start c .pre .1 .1 in record { room = k .room; small = k .small }
 
-  fits : (c : lts.After-child-of2 (congruence-claims t) (write-congruence-at t) write-congruence.Post Inv-loop μ-loop) →
-      let l = c .before .before .before in
-      let a = l .before .before .before .before .before .before .args in
+  fits : (c : Pair) →
+      let l = loop c in
+      let a = start l .args in
       Fits (a .spot .place + l .loop .front) (a .spot .post + l .loop .back) (l .loop .end)
       (length (termWords (nodesOf (a .nodes .now)) (c .before .child-of .result .0))) (a .spot .post) wordLimit
   fits c =
-      let l = c .before .before .before in
-      let k = l .before .before .before .before .before .before .pre .1 .1 in
-      let f = child-fits _ _ _ _ _ _ _ _ _ (state c) in
-      let long = children-long _ _ _ _ _ _ _ _ _ (state c) (whole l) in
+      let l = loop c in
+      let k = start l .pre .1 .1 in
+      let f = child-fits (state c) in
+      let long = children-long (state c) (whole l) in
       record {
         place-in = f .place-in;
         post-in = f .post-in;
@@ -169,11 +172,11 @@ module _ (t : ℕ) where
   -- the old child's words
   old-is : (c : lts.After-words-of2 (congruence-claims t) (write-congruence-at t) write-congruence.Post Inv-loop μ-loop) →
       let d = c .before in
-      let a = d .before .before .before .before .before .before .before .before .before .args in
+      let a = start (loop d) .args in
       c .words-of2 .result ≡ length (termWords (nodesOf (a .nodes .now)) (d .before .child-of .result .0))
   old-is c =
       let d = c .before in
-      let s = d .before .before .before .before .before .before .before .before .before in
+      let s = start (loop d) in
       let f = fits d in
       c .words-of2 .ensures ∙ exact (s .pre .1 .0 .0 .sized) (d .before .child-of .result .0) (reached d .left-in) (omega (arith, f .child-in, f .post-in, f .end-in))
 
@@ -190,12 +193,12 @@ module _ (t : ℕ) where
   abbrev spot : lts.After-words-of2 (congruence-claims t) (write-congruence-at t) write-congruence.Post Inv-loop μ-loop → Spot
   spot c =
       let l = c .before .before .before .before in
-      let s = l .before .before .before .before .before .before .args .spot in
+      let s = start l .args .spot in
       record { place = s .place + l .loop .front; post = s .post + (l .loop .back - c .words-of2 .result); end = l .loop .end }
 
   behind : (c : lts.After-words-of2 (congruence-claims t) (write-congruence-at t) write-congruence.Post Inv-loop μ-loop) →
       let l = c .before .before .before .before in
-      let a = l .before .before .before .before .before .before .args in
+      let a = start l .args in
       spot c .post + length (termWords (nodesOf (a .nodes .now)) (c .before .before .child-of .result .0)) ≡ a .spot .post + l .loop .back
   behind c = omega (arith, old-is c, fits (c .before) .child-in)
 
@@ -203,78 +206,81 @@ module _ (t : ℕ) where
   write-path-requires c κs =
       let w = c .before .before .before .before in
       let d = w .before in
-      let l = d .before .before .before in
-      let s = l .before .before .before .before .before .before in
+      let l = loop d in
+      let s = start l in
       let k = s .pre .1 .1 in
       let p = pre-plain (k .stood) in
       let q = post-plain (k .stood) in (
         omega (arith, s .pre .0),
         (
           (s .pre .1 .0 .0, reached d),
-          part-asked (child-part _ _ _ _ _ _ _ _ _ (state d) p q (spot w) refl (behind w) refl) (whole l) (l .loop .inv .0 .long ∙ k .long) (s .args .used)
-              (child-few _ _ _ _ _ _ _ _ _ (state d) p q (spot w) refl (behind w) refl (s .args .used) (k .few)),
+          part-asked (child-part (state d) p q (spot w) refl (behind w) refl) (whole l) (l .loop .inv .0 .long ∙ k .long) (s .args .used)
+              (child-few (state d) p q (spot w) refl (behind w) refl (s .args .used) (k .few)),
         ),
       )
 
   words-of-requires-3 : lts.Need-words-of-requires-3 (congruence-claims t) (write-congruence-at t) write-congruence.Post Inv-loop μ-loop
   words-of-requires-3 c κs =
       let d = c .before .before .before .before .before .before .before .before in
-      omega (arith, reached d .right-in, d .before .before .before .before .before .before .before .before .before .pre .1 .0 .0 .whole .stand .few)
+      omega (arith, reached d .right-in, start (loop d) .pre .1 .0 .0 .whole .stand .few)
 
   -- the new child's words
   new-is : (c : lts.After-words-of3 (congruence-claims t) (write-congruence-at t) write-congruence.Post Inv-loop μ-loop) →
-      let d = c .before .before .before .before .before .before .before .before .before in
-      let a = d .before .before .before .before .before .before .before .before .before .args in
+      let d = written c .before .before .before .before .before .before in
+      let a = start (loop d) .args in
       (c .words-of3 .result ≡ length (termWords (nodesOf (a .nodes .now)) (d .child-of2 .result .0))) × (c .words-of3 .result ≤ wordLimit)
   new-is c =
-      let g = c .before .before .before in
+      let g = written c in
       let w = g .before .before .before .before .before in
       let d = w .before in
-      let l = d .before .before .before in
-      let s = l .before .before .before .before .before .before in
+      let l = loop d in
+      let s = start l in
       let k = s .pre .1 .1 in
-      let small = child-fits-after _ _ _ _ _ _ _ _ _ (state d) (pre-plain (k .stood)) (post-plain (k .stood)) (spot w) refl (behind w) refl (whole l)
+      let small = child-fits-after (state d) (pre-plain (k .stood)) (post-plain (k .stood)) (spot w) refl (behind w) refl (whole l)
       (g .write-path .ensures .0) (leads (s .pre .1 .0 .0) (reached d)) in
       let e = c .words-of3 .ensures ∙ exact (s .pre .1 .0 .0 .sized) (d .child-of2 .result .0) (reached d .right-in) (omega (arith, small, k .small)) in
       (e, omega (arith, e, small, k .small))
 
   add-front-2 : lts.Need-add-front-2 (congruence-claims t) (write-congruence-at t) write-congruence.Post Inv-loop μ-loop
   add-front-2 c =
-      let f = fits (c .before .before .before .before .before .before .before .before .before) in
+      let f = fits (written c .before .before .before .before .before .before) in
       omega (arith, f .place-in, f .end-in, new-is c .1)
 
   add-i : lts.Need-add-i (congruence-claims t) (write-congruence-at t) write-congruence.Post Inv-loop μ-loop
-  add-i c = omega (arith, more (c .before .before .before .before .before .before .before .before .before .before .before), c .before .before .before .before .before .before .before .before .before .before .before .before .before .before .before .before .before .before .pre .1 .0 .1 .twins .left-known .narrow)
+  add-i c =
+      let d = written c .before .before .before .before .before .before in
+      let l = loop d in
+      omega (arith, more (d .before .before), start l .pre .1 .0 .1 .twins .left-known .narrow)
 
   loop-less : lts.Need-loop-less (congruence-claims t) (write-congruence-at t) write-congruence.Post Inv-loop μ-loop
   loop-less c = omega arith
 
   loop-again : lts.Need-loop-again (congruence-claims t) (write-congruence-at t) write-congruence.Post Inv-loop μ-loop
   loop-again c =
-      let g = c .before .before .before in
+      let g = written c in
       let w = g .before .before .before .before .before in
       let d = w .before in
-      let l = d .before .before .before in
-      let s = l .before .before .before .before .before .before in
+      let l = loop d in
+      let s = start l in
       let k = s .pre .1 .1 in (
         kept-more (l .loop .inv .0) (g .write-path .ensures .1),
-        child-next _ _ _ _ _ _ _ _ _ (state d) (pre-plain (k .stood)) (post-plain (k .stood)) (spot w) refl (behind w) refl (whole l)
+        child-next (state d) (pre-plain (k .stood)) (post-plain (k .stood)) (spot w) refl (behind w) refl (whole l)
             (g .write-path .ensures .0) (leads (s .pre .1 .0 .0) (reached d)) _ (omega (arith, new-is c .0)),
       )
 
   -- every child is rewritten
   all : (c : lts.After-loop (congruence-claims t) (write-congruence-at t) write-congruence.Post Inv-loop μ-loop) →
       let l = c .before in
-      let a = l .before .before .before .before .before .before .args in
+      let a = start l .args in
       let ns = nodesOf (a .nodes .now) in
       Wrote (a .area .now) (a .spot) (termWords ns (a .a .0)) (twinTerms ns (a .conns .now) (a .age) (a .a .0) (a .b .0)) (l .loop .area) (l .loop .end)
   all c =
       let l = c .before in
-      let a = l .before .before .before .before .before .before .args in
-      children-all _ _ _ _ _ _ _ _ _ (left-none (a .nodes .now) (a .a .0 * nodeWords + childrenAt) _ (l .loop .i) (c .loop-test .left)) (l .loop .inv .1)
+      let a = start l .args in
+      children-all (left-none (a .nodes .now) (a .a .0 * nodeWords + childrenAt) _ (l .loop .i) (c .loop-test .left)) (l .loop .inv .1)
 
   same-length : lts.Need-same-length (congruence-claims t) (write-congruence-at t) write-congruence.Post Inv-loop μ-loop
-  same-length c = ran-long (all c) (c .before .before .before .before .before .before .before .pre .1 .1 .room)
+  same-length c = ran-long (all c) (start (c .before) .pre .1 .1 .room)
 
   returns : lts.Need-returns (congruence-claims t) (write-congruence-at t) write-congruence.Post Inv-loop μ-loop
   returns c = (all c, c .before .loop .inv .0)

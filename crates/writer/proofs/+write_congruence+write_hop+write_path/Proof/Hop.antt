@@ -38,44 +38,51 @@ module _ (t : ℕ) where
   enum-known-why : lts.Need-enum-known-why (hop-claims t) (write-hop-at t) write-hop.Post
   enum-known-why c = search needs
 
+  -- where both ends of the connection are known, and where the function starts
+  abbrev Ends : Type 0
+  Ends = lts.After-start-of2 (hop-claims t) (write-hop-at t) write-hop.Post
+
+  abbrev start : Ends → lts.Start (hop-claims t) (write-hop-at t) write-hop.Post
+  start c = c .before .before .before .before .before .before
+
   -- the connection's two nodes, in the order in which it is walked
-  from-is : (c : lts.After-start-of2 (hop-claims t) (write-hop-at t) write-hop.Post) →
-      let a = c .before .before .before .before .before .before .args in
+  from-is : (c : Ends) →
+      let a = start c .args in
       c .before .start-of .result ≡ startOf (connectionIn (a .conns .now) (a .age)) (a .up)
   from-is c =
-      let a = c .before .before .before .before .before .before .args in
+      let a = start c .args in
       c .before .start-of .ensures ∙ ap (λ (x : Connection). startOf x (a .up)) (c .before .before .connection-at .ensures)
 
-  to-is : (c : lts.After-start-of2 (hop-claims t) (write-hop-at t) write-hop.Post) →
-      let a = c .before .before .before .before .before .before .args in
+  to-is : (c : Ends) →
+      let a = start c .args in
       c .start-of2 .result ≡ startOf (connectionIn (a .conns .now) (a .age)) (not (a .up))
   to-is c =
-      let a = c .before .before .before .before .before .before .args in
+      let a = start c .args in
       c .start-of2 .ensures ∙ ap (λ (x : Connection). startOf x (not (a .up))) (c .before .before .connection-at .ensures)
 
-  from-in : (c : lts.After-start-of2 (hop-claims t) (write-hop-at t) write-hop.Post) →
-      let a = c .before .before .before .before .before .before .args in
+  from-in : (c : Ends) →
+      let a = start c .args in
       c .before .start-of .result .0 < nodesIn (a .nodes .now)
   from-in c =
-      let s = c .before .before .before .before .before .before in
+      let s = start c in
       let a = s .args in
       omega (arith, ap (λ (x : NodeNo). x .0) (from-is c), start-in (s .pre .1 .0 .0 .support) (a .age) (s .pre .1 .0 .1) (a .up))
 
-  to-in : (c : lts.After-start-of2 (hop-claims t) (write-hop-at t) write-hop.Post) →
-      let a = c .before .before .before .before .before .before .args in
+  to-in : (c : Ends) →
+      let a = start c .args in
       c .start-of2 .result .0 < nodesIn (a .nodes .now)
   to-in c =
-      let s = c .before .before .before .before .before .before in
+      let s = start c in
       let a = s .args in
       omega (arith, ap (λ (x : NodeNo). x .0) (to-is c), start-in (s .pre .1 .0 .0 .support) (a .age) (s .pre .1 .0 .1) (not (a .up)))
 
   -- what was asked, by the node that it starts from
-  asked : (c : lts.After-start-of2 (hop-claims t) (write-hop-at t) write-hop.Post) →
-      let a = c .before .before .before .before .before .before .args in
+  asked : (c : Ends) →
+      let a = start c .args in
       let ns = nodesOf (a .nodes .now) in
       Asked (a .trail .now) (a .area .now) (a .at) (termWords ns (c .before .start-of .result .0)) (legTerms ns (a .conns .now) (a .age) (a .up)) (a .used)
   asked c =
-      let s = c .before .before .before .before .before .before in
+      let s = start c in
       let a = s .args in
       let ns = nodesOf (a .nodes .now) in
       subst (λ (x : NodeNo). Asked (a .trail .now) (a .area .now) (a .at) (termWords ns (x .0)) (legTerms ns (a .conns .now) (a .age) (a .up)) (a .used))
@@ -84,7 +91,7 @@ module _ (t : ℕ) where
   words-of-requires : lts.Need-words-of-requires (hop-claims t) (write-hop-at t) write-hop.Post
   words-of-requires c κs =
       let e = c .before .before .before in
-      omega (arith, from-in e, e .before .before .before .before .before .before .pre .1 .0 .0 .whole .stand .few)
+      omega (arith, from-in e, start e .pre .1 .0 .0 .whole .stand .few)
 
   mark-for-requires : lts.Need-mark-for-requires (hop-claims t) (write-hop-at t) write-hop.Post
   mark-for-requires c κs = search needs
@@ -92,11 +99,11 @@ module _ (t : ℕ) where
   -- the old subterm's words
   old-is : (c : lts.After-words-of (hop-claims t) (write-hop-at t) write-hop.Post) →
       let e = c .before .before .before .before in
-      let a = e .before .before .before .before .before .before .args in
+      let a = start e .args in
       c .words-of .result ≡ length (termWords (nodesOf (a .nodes .now)) (e .before .start-of .result .0))
   old-is c =
       let e = c .before .before .before .before in
-      let s = e .before .before .before .before .before .before in
+      let s = start e in
       let k = asked e in
       c .words-of .ensures
       ∙ exact (s .pre .1 .0 .0 .sized) (e .before .start-of .result .0) (from-in e) (omega (arith, k .stood .room, k .stood .fits, k .small))
@@ -104,13 +111,13 @@ module _ (t : ℕ) where
   -- what a rule appends
   rule-terms : (c : lts.After-why (hop-claims t) (write-hop-at t) write-hop.Post) →
       let e = c .before .before in
-      let a = e .before .before .before .before .before .before .args in
+      let a = start e .args in
       let ns = nodesOf (a .nodes .now) in
       legTerms ns (a .conns .now) (a .age) (a .up)
       ≡ markedTerm ns (markFor (c .why .given .0 .0 .0) (c .why .given .0 .1 .0) (a .up)) (e .start-of2 .result .0)
   rule-terms c =
       let e = c .before .before in
-      let a = e .before .before .before .before .before .before .args in
+      let a = start e .args in
       let ns = nodesOf (a .nodes .now) in
       leg-rule ns (a .conns .now) (a .age) (a .up)
       (sym (ap (λ (x : Connection). x .why) (e .before .before .connection-at .ensures)) ∙ c .why .given .1)
@@ -120,7 +127,7 @@ module _ (t : ℕ) where
   append-requires c κs =
       let w = c .before .before .before .before in
       let e = w .before .before in
-      let s = e .before .before .before .before .before .before in
+      let s = start e in
       let a = s .args in
       let k = asked e in
       let ns = nodesOf (a .nodes .now) in
@@ -143,19 +150,19 @@ module _ (t : ℕ) where
   enum-told c = search needs
 
   congruent : (c : lts.After-enum-told (hop-claims t) (write-hop-at t) write-hop.Post) →
-      let a = c .before .before .before .before .before .before .before .before .args in
+      let a = start (c .before .before) .args in
       connectionIn (a .conns .now) (a .age) .why ≡ Congruence
   congruent c = sym (ap (λ (x : Connection). x .why) (c .before .before .before .before .connection-at .ensures)) ∙ c .enum-told .given .1
 
   -- what a congruence appends
   twin-terms : (c : lts.After-enum-told (hop-claims t) (write-hop-at t) write-hop.Post) →
       let e = c .before .before in
-      let a = e .before .before .before .before .before .before .args in
+      let a = start e .args in
       let ns = nodesOf (a .nodes .now) in
       legTerms ns (a .conns .now) (a .age) (a .up) ≡ twinTerms ns (a .conns .now) (a .age) (e .before .start-of .result .0) (e .start-of2 .result .0)
   twin-terms c =
       let e = c .before .before in
-      let a = e .before .before .before .before .before .before .args in
+      let a = start e .args in
       let ns = nodesOf (a .nodes .now) in
       leg-twin ns (a .conns .now) (a .age) (a .up) (congruent c)
       ∙ ap₂ (λ (x y : NodeNo). twinTerms ns (a .conns .now) (a .age) (x .0) (y .0)) (sym (from-is e)) (sym (to-is e))
@@ -164,7 +171,7 @@ module _ (t : ℕ) where
   write-congruence-requires c κs =
       let k = c .before .before in
       let e = k .before .before in
-      let s = e .before .before .before .before .before .before in
+      let s = start e in
       let a = s .args in
       let twin = matched (s .pre .1 .0 .0 .support) (a .age) (s .pre .1 .0 .1) (a .up) (congruent k) in (
         omega (arith, s .pre .0),
@@ -186,7 +193,7 @@ module _ (t : ℕ) where
       let p = c .before .before in
       let w = p .before .before .before .before .before in
       let e = w .before .before in
-      let a = e .before .before .before .before .before .before .args in
+      let a = start e .args in
       let ns = nodesOf (a .nodes .now) in
       let r = w .why .given .0 .0 .0 in
       let b = e .start-of2 .result .0 in
@@ -209,7 +216,7 @@ module _ (t : ℕ) where
       let p = c .before .before in
       let k = p .before .before .before in
       let e = k .before .before in
-      let a = e .before .before .before .before .before .before .args in
+      let a = start e .args in
       let ns = nodesOf (a .nodes .now) in (
         subst₂
             (λ (x : NodeNo) (f : Terms).

@@ -42,21 +42,28 @@ module _ (t : ℕ) where
       let k = s .pre .1 in
       (k .1 .long, layable (k .0 .0) (k .0 .1) (s .args .used) (k .1 .few))
 
+  -- where the path is laid, and where the function starts
+  abbrev Laid : Type 0
+  Laid = lts.After-lay-path (path-claims t) (write-path-at t) write-path.Post Inv-loop μ-loop
+
+  abbrev start : Laid → lts.Start (path-claims t) (write-path-at t) write-path.Post Inv-loop μ-loop
+  start c = c .before .before .before .before .before
+
   -- the path lies on the trail
-  laid : (c : lts.After-lay-path (path-claims t) (write-path-at t) write-path.Post Inv-loop μ-loop) →
-      let a = c .before .before .before .before .before .args in
+  laid : (c : Laid) →
+      let a = start c .args in
       LaidOut (a .rows .now) (listed (a .conns .now)) (a .trail .now) (a .used) (a .left .0) (a .right .0) (c .lay-path .last .1 .0)
       (c .lay-path .result .turn) (c .lay-path .result .top)
   laid c =
-      let s = c .before .before .before .before .before in
+      let s = start c in
       let k = s .pre .1 in
       c .lay-path .ensures (listed (s .args .conns .now)) _ (k .0 .0 .charged .climbs) (k .0 .1 .left-in) (k .0 .1 .right-in)
 
-  kept : (c : lts.After-lay-path (path-claims t) (write-path-at t) write-path.Post Inv-loop μ-loop) →
-      let a = c .before .before .before .before .before .args in
+  kept : (c : Laid) →
+      let a = start c .args in
       Kept (a .used) (a .trail .now) (c .lay-path .last .1 .0)
   kept c =
-      let s = c .before .before .before .before .before in
+      let s = start c in
       let a = s .args in
       let k = s .pre .1 in
       let cs = listed (a .conns .now) in
@@ -65,12 +72,12 @@ module _ (t : ℕ) where
       kept-splice (a .trail .now) (ds ++ reverse us) (laid c .trail-is)
       (omega (arith, length-append ds (reverse us), length-back us, k .1 .long, path-room (k .0 .0) (k .0 .1) (a .used) (k .1 .few)))
 
-  begun : (c : lts.After-lay-path (path-claims t) (write-path-at t) write-path.Post Inv-loop μ-loop) →
-      let a = c .before .before .before .before .before .args in
+  begun : (c : Laid) →
+      let a = start c .args in
       Begun (nodesOf (a .nodes .now)) (a .conns .now) (a .bound) (a .spot) (a .area .now) (c .lay-path .last .1 .0) (a .used)
       (c .lay-path .result .turn) (c .lay-path .result .top) (a .left .0) (a .right .0)
   begun c =
-      let s = c .before .before .before .before .before in
+      let s = start c in
       let k = s .pre .1 in
       let asked = k .1 in
       record {
@@ -88,23 +95,23 @@ module _ (t : ℕ) where
   -- the loop's state, and the connection that it takes next
   here : (c : lts.At-loop (path-claims t) (write-path-at t) write-path.Post Inv-loop μ-loop) →
       let d = c .before in
-      let a = d .before .before .before .before .before .args in
+      let a = start d .args in
       let ns = nodesOf (a .nodes .now) in
       Hopping ns (a .conns .now) (a .bound) (a .right .0) (later ns (oldest (a .bound) (a .conns .now)) (a .left .0) (a .right .0))
       (preOf (a .area .now) (a .spot) (length (termWords ns (a .left .0)))) (postOf (a .area .now) (a .spot)) (a .area .now) (a .spot .end)
       (d .lay-path .result .turn) (a .used) (c .loop .trail) (c .loop .area) (c .loop .top) (c .loop .end)
-  here c = let a = c .before .before .before .before .before .before .args in c .loop .inv .1 (a .left .0) (a .right .0) (begun (c .before))
+  here c = let a = start (c .before) .args in c .loop .inv .1 (a .left .0) (a .right .0) (begun (c .before))
 
   coming : (c : lts.In-loop (path-claims t) (write-path-at t) write-path.Post Inv-loop μ-loop) {age : ℕ} {up : Bool} →
       let l = c .before in
       let d = l .before in
-      let a = d .before .before .before .before .before .args in
+      let a = start d .args in
       let ns = nodesOf (a .nodes .now) in
       age ≡ getD (l .loop .trail) (l .loop .top - 1) 0 → up ≡ leb (d .lay-path .result .turn) (l .loop .top - 1) →
       Next ns (a .conns .now) (a .bound) (a .right .0) (later ns (oldest (a .bound) (a .conns .now)) (a .left .0) (a .right .0))
       (preOf (a .area .now) (a .spot) (length (termWords ns (a .left .0)))) (postOf (a .area .now) (a .spot)) (a .area .now) (a .spot .end)
       (d .lay-path .result .turn) (a .used) (l .loop .trail) (l .loop .area) (l .loop .top) (l .loop .end) age up
-  coming c e u = next _ _ _ _ _ _ _ _ _ _ _ (here (c .before)) (c .loop-test .taken) e u
+  coming c e u = next (here (c .before)) (c .loop-test .taken) e u
 
   sub-top : lts.Need-sub-top (path-claims t) (write-path-at t) write-path.Post Inv-loop μ-loop
   sub-top c = omega arith
@@ -112,14 +119,14 @@ module _ (t : ℕ) where
   age-on-requires : lts.Need-age-on-requires (path-claims t) (write-path-at t) write-path.Post Inv-loop μ-loop
   age-on-requires c κs =
       let i = c .before in
-      let s = i .before .before .before .before .before .before .before in
-      omega (arith, few _ _ _ _ _ _ _ _ _ _ _ (i .loop-test .taken) (coming i refl refl) (s .pre .1 .1 .few))
+      let s = start (i .before .before) in
+      omega (arith, few (coming i refl refl) (i .loop-test .taken) (s .pre .1 .1 .few))
 
   write-hop-requires : lts.Need-write-hop-requires (path-claims t) (write-path-at t) write-path.Post Inv-loop μ-loop
   write-hop-requires c κs =
       let i = c .before .before .before .before .before in
       let l = i .before in
-      let s = l .before .before .before .before .before .before in
+      let s = start (l .before) in
       let k = s .pre .1 in
       let n = coming i (c .before .before .before .age-on .ensures) refl in
       let age = n .below in
@@ -137,19 +144,19 @@ module _ (t : ℕ) where
       let lt = i .loop-test .taken in (
         kept-more (l .loop .inv .0) (kept-less (omega arith) (w .write-hop .ensures .1)),
         λ a b g.
-            hopping-next g lt (next _ _ _ _ _ _ _ _ _ _ _ (l .loop .inv .1 a b g) lt (w .before .before .before .before .age-on .ensures) refl)
+            hopping-next g lt (next (l .loop .inv .1 a b g) lt (w .before .before .before .before .age-on .ensures) refl)
             (w .write-hop .ensures .1 .same) (w .write-hop .ensures .0),
       )
 
   same-length : lts.Need-same-length (path-claims t) (write-path-at t) write-path.Post Inv-loop μ-loop
   same-length c =
       let l = c .before in
-      ran-long (hopped _ _ _ _ _ _ _ _ _ _ _ (here l) (c .loop-test .left)) (l .before .before .before .before .before .before .pre .1 .1 .room)
+      ran-long (hopped (here l) (c .loop-test .left)) (start (l .before) .pre .1 .1 .room)
 
   returns : lts.Need-returns (path-claims t) (write-path-at t) write-path.Post Inv-loop μ-loop
   returns c =
       let l = c .before in
-      (hopped _ _ _ _ _ _ _ _ _ _ _ (here l) (c .loop-test .left), kept-more (kept (l .before)) (l .loop .inv .0))
+      (hopped (here l) (c .loop-test .left), kept-more (kept (l .before)) (l .loop .inv .0))
 
 pub path-spec : {M : Type 1} (t : ℕ) → lts.Closed (path-claims t) (write-path-at t) write-path.Post M
 path-spec t =
