@@ -6,3 +6,4 @@ pub mod DemandThree
 pub mod Inhabited
 pub mod Only
 pub mod Queries
+pub mod Customers

@@ -2,14 +2,15 @@
 -- Assumes nothing.
 use Prim.Native.Nat.{ℕ, suc, _-_, _≤_, _<_}
 use mathlib.Core.Bool.{false}
-use mathlib.Core.List.{_++_}
-use mathlib.Core.Logic.{_⊎_}
+use mathlib.Core.List.{List, _++_}
+use mathlib.Core.Logic.{_⊎_, _↔_}
 use mathlib.Core.Path.{_≡_}
 use lib.ListN.{length, replicate}
-use Rattle.model.specs.declared.Answer.the-variants.{Written}
+use Rattle.model.specs.declared.Answer.{Answer}
+use Rattle.model.specs.declared.Answer.the-variants.{Written, Refused}
 use Rattle.model.specs.declared.Verdict.the-variants.{Accepted}
 use Rattle.model.specs.Limits.{distanceLimit, wordLimit}
-use Rattle.model.specs.Judged.{Judged}
+use Rattle.model.specs.Judged.{Judged, good, bad}
 use Rattle.model.specs.Term.{one, count, strip}
 use Rattle.model.specs.Step.{someMark, isMark}
 use Rattle.model.specs.Node.{termOf}
@@ -36,6 +37,18 @@ Unlinked t l r = Linked (t .conns) l r → ⊥
 -- "needed words exceed the area, or 1,048,576"
 abbrev pub Exceeds : Tables → ℕ → ℕ → ℕ → Type 0
 Exceeds t area l r = (area < length (proofWords t l r)) ⊎ (wordLimit < length (proofWords t l r))
+
+-- DEMAND 1 of a query over the judged tables j, with answer a and what the area then holds: each number exactly where its condition is the
+-- first to hold, bad tables before all else; after a refusal the area is all zero, and it is always as long as it was
+pub record FirstToHold (j : Judged Tables) (area l r : ℕ) (a : Answer) (after : List ℕ) : Type 0 where
+  pub tables : (n : ℕ) → j ≡ bad n → a ≡ Refused n
+  pub is-8 : (t : Tables) → j ≡ good t → (a ≡ Refused 8) ↔ Missing t l r
+  pub is-9 : (t : Tables) → j ≡ good t → (a ≡ Refused 9) ↔ (Known t l r × Unlinked t l r)
+  pub is-10 : (t : Tables) → j ≡ good t → (a ≡ Refused 10) ↔ (Known t l r × Linked (t .conns) l r × (distanceLimit < distanceOf t l r))
+  pub is-11 : (t : Tables) → j ≡ good t
+      → (a ≡ Refused 11) ↔ (Known t l r × Linked (t .conns) l r × (distanceOf t l r ≤ distanceLimit) × Exceeds t area l r)
+  pub zero : (n : ℕ) → a ≡ Refused n → after ≡ replicate area 0
+  pub kept : length after ≡ area
 
 -- what a query needs to be answered: none of these holds
 pub record Asked (t : Tables) (area l r : ℕ) : Type 0 where

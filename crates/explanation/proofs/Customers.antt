@@ -1,0 +1,81 @@
+-- FROM THE CONTRACTS TO THE CUSTOMER'S SENTENCES, in one step each. Whatever meets the contract of `query`, on arguments a, with result r
+-- and what s leaves with the caller, keeps demands 1 and 3; and what it wrote, `check` accepts.
+-- The arguments stand in their order: a .0 nodes, a .1 .0 rules, a .1 .1 .0 connections, then left, right and the area; so do those of
+-- `check`, with the words last.
+-- Assumes nothing.
+use Prim.Native.Nat.{ℕ, suc}
+use mathlib.Core.List.{List}
+use mathlib.Core.Path.{_≡_, refl, sym, ap, _∙_}
+use contract.Lifetimes.{Lfts}
+use denote.Ref.{now}
+use lib.ListN.{length, take}
+use lib.Seq.{take-at}
+use Rattle.model.specs.declared.Answer.{Answer}
+use Rattle.model.specs.declared.Answer.the-variants.{Written}
+use Rattle.model.specs.declared.Verdict.{Verdict}
+use Rattle.model.specs.declared.Verdict.the-variants.{Accepted}
+use Rattle.model.specs.Judged.{Judged, good}
+use Rattle.model.specs.Premise.{Premise}
+use Rattle.model.specs.Query.{Tables, distanceOf, proofWords}
+use Rattle.model.specs.Tables.{judgeTables, answerBy, areaOf, verdictBy}
+use Rattle.explanation.specs.Demand.{FirstToHold, Asked, Granted}
+use Rattle.explanation.proofs.DemandThree.{answered, area-kept, bad-tables, demand-3 as grants, refused-10, refused-11, refused-8, refused-9, refused-zero}
+use Rattle.explanation.proofs.query.Reads as query
+use Rattle.explanation.proofs.check.Reads as check
+
+module _ (nws rws cws : List ℕ) (area l r : ℕ) where
+  -- the answer and the area are the definitions': then each number is the first to hold
+  first-to-hold : (a : Answer) (after : List ℕ) → a ≡ answerBy (judgeTables nws rws cws) area l r → after ≡ areaOf (judgeTables nws rws cws) area l r →
+      FirstToHold (judgeTables nws rws cws) area l r a after
+  first-to-hold a after p q =
+      rw (p, q) record {
+        tables = λ n e. bad-tables nws rws cws n e area l r cws .0;
+        is-8 = λ t e. refused-8 nws rws cws t e area l r;
+        is-9 = λ t e. refused-9 nws rws cws t e area l r;
+        is-10 = λ t e. refused-10 nws rws cws t e area l r;
+        is-11 = λ t e. refused-11 nws rws cws t e area l r;
+        zero = λ n e. refused-zero (judgeTables nws rws cws) area l r n e;
+        kept = area-kept nws rws cws area l r;
+      }
+
+  -- what was written, the strict checker accepts
+  accepted-back : (t : Tables) → judgeTables nws rws cws ≡ good t → Premise (t .rules) (t .nodes) (t .conns) → (d w : ℕ) →
+      Written d w ≡ answerBy (judgeTables nws rws cws) area l r →
+      verdictBy (judgeTables nws rws cws) (take w (areaOf (judgeTables nws rws cws) area l r)) ≡ Accepted (suc d)
+  accepted-back t e p d w k =
+      let g = grants nws rws cws t e area l r (answered nws rws cws t e area l r d w (sym k)) in
+      let f = k ∙ g .answers in
+      let n : length (proofWords t l r) ≡ w = cc in
+      let m : suc (distanceOf t l r) ≡ suc d = cc in
+      ap (verdictBy (judgeTables nws rws cws)) (ap (take w) (g .lent) ∙ take-at (proofWords t l r) _ w n) ∙ (g .accepted p ∙ ap Accepted m)
+
+-- DEMAND 1 of `query`
+pub demand-1 : (κs : Lfts 4) (a s : _) (r : Answer) → query.Post κs a r s →
+    FirstToHold (judgeTables (now (a .0)) (now (a .1 .0)) (now (a .1 .1 .0))) (length (now (a .1 .1 .1 .1 .1 .0))) (a .1 .1 .1 .0 .0) (a .1 .1 .1 .1 .0 .0)
+    r (now (s .1 .1 .1 .1 .1 .0))
+demand-1 κs a s r p = first-to-hold (now (a .0)) (now (a .1 .0)) (now (a .1 .1 .0)) _ _ _ r _ (p .0) (p .1)
+
+-- DEMAND 3 of `query`: what is granted, of the result and of the lent area
+pub demand-3 : (κs : Lfts 4) (a s : _) (r : Answer) → query.Post κs a r s → (t : Tables) →
+    judgeTables (now (a .0)) (now (a .1 .0)) (now (a .1 .1 .0)) ≡ good t →
+    Asked t (length (now (a .1 .1 .1 .1 .1 .0))) (a .1 .1 .1 .0 .0) (a .1 .1 .1 .1 .0 .0) →
+    (r ≡ answerBy (judgeTables (now (a .0)) (now (a .1 .0)) (now (a .1 .1 .0))) (length (now (a .1 .1 .1 .1 .1 .0))) (a .1 .1 .1 .0 .0) (a .1 .1 .1 .1 .0 .0))
+    × (now (s .1 .1 .1 .1 .1 .0)
+    ≡ areaOf (judgeTables (now (a .0)) (now (a .1 .0)) (now (a .1 .1 .0))) (length (now (a .1 .1 .1 .1 .1 .0))) (a .1 .1 .1 .0 .0) (a .1 .1 .1 .1 .0 .0))
+    × Granted (judgeTables (now (a .0)) (now (a .1 .0)) (now (a .1 .1 .0))) t (length (now (a .1 .1 .1 .1 .1 .0))) (a .1 .1 .1 .0 .0) (a .1 .1 .1 .1 .0 .0)
+demand-3 κs a s r p t e k = (p .0, p .1, grants (now (a .0)) (now (a .1 .0)) (now (a .1 .1 .0)) t e _ _ _ k)
+
+-- THE ROUND TRIP: over the same tables, whose rule connections are instances of their listed rules, `check` accepts what `query` wrote, with
+-- distance + 1 terms
+pub round-trip : (κs κs′ : Lfts 4) (a s b s′ : _) (r : Answer) (v : Verdict) → query.Post κs a r s → check.Post κs′ b v s′ → (t : Tables) →
+    judgeTables (now (a .0)) (now (a .1 .0)) (now (a .1 .1 .0)) ≡ good t → Premise (t .rules) (t .nodes) (t .conns) →
+    now (b .0) ≡ now (a .0) → now (b .1 .0) ≡ now (a .1 .0) → now (b .1 .1 .0) ≡ now (a .1 .1 .0) → (d w : ℕ) → r ≡ Written d w →
+    now (b .1 .1 .1 .0) ≡ take w (now (s .1 .1 .1 .1 .1 .0)) → v ≡ Accepted (suc d)
+round-trip κs κs′ a s b s′ r v p q t e i n m c d w f ws =
+    q
+    ∙ again (now (b .0)) (now (a .0)) n (now (b .1 .0)) (now (a .1 .0)) m (now (b .1 .1 .0)) (now (a .1 .1 .0)) c (now (b .1 .1 .1 .0)) _ (ws ∙ ap (take w) (p .1))
+    ∙ accepted-back (now (a .0)) (now (a .1 .0)) (now (a .1 .1 .0)) _ _ _ t e i d w (sym f ∙ p .0)
+  where
+    again : (x x′ : List ℕ) → x ≡ x′ → (y y′ : List ℕ) → y ≡ y′ → (z z′ : List ℕ) → z ≡ z′ → (u u′ : List ℕ) → u ≡ u′ →
+        verdictBy (judgeTables x y z) u ≡ verdictBy (judgeTables x′ y′ z′) u′
+    again x x′ e y y′ f z z′ g u u′ h = rw (e, f, g, h) refl
