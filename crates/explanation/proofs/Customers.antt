@@ -1,25 +1,31 @@
 -- FROM THE CONTRACTS TO THE CUSTOMER'S SENTENCES, in one step each. Whatever meets the contract of `query`, on arguments a, with result r
--- and what s leaves with the caller, keeps demands 1 and 3; and what it wrote, `check` accepts.
+-- and what s leaves with the caller, keeps demands 1 and 3, whatever meets that of `check` demand 2; and what the one wrote, the other accepts.
 -- The arguments stand in their order: a .0 nodes, a .1 .0 rules, a .1 .1 .0 connections, then left, right and the area; so do those of
 -- `check`, with the words last.
 -- Assumes nothing.
 use Prim.Native.Nat.{ℕ, suc}
 use mathlib.Core.List.{List}
-use mathlib.Core.Path.{_≡_, refl, sym, ap, _∙_}
+use mathlib.Core.Logic.{_↔_}
+use mathlib.Core.Path.{_≡_, refl, sym, ap, subst, _∙_}
 use contract.Lifetimes.{Lfts}
 use denote.Ref.{now}
 use lib.ListN.{length, take}
 use lib.Seq.{take-at}
 use Rattle.model.specs.declared.Answer.{Answer}
 use Rattle.model.specs.declared.Answer.the-variants.{Written}
+use Rattle.model.specs.declared.Measured.{Measured}
+use Rattle.model.specs.declared.Measured.the-variants.{Unmeasured}
 use Rattle.model.specs.declared.Verdict.{Verdict}
-use Rattle.model.specs.declared.Verdict.the-variants.{Accepted}
-use Rattle.model.specs.Judged.{Judged, good}
+use Rattle.model.specs.declared.Verdict.the-variants.{Accepted, Rejected}
+use Rattle.model.specs.Judged.{Judged, good, bad}
 use Rattle.model.specs.Premise.{Premise}
 use Rattle.model.specs.Query.{Tables, distanceOf, proofWords}
-use Rattle.model.specs.Tables.{judgeTables, answerBy, areaOf, verdictBy}
+use Rattle.model.specs.Verdict.{Proves}
+use Rattle.model.specs.Tables.{judgeTables, measureBy, answerBy, areaOf, verdictBy}
 use Rattle.explanation.specs.Demand.{FirstToHold, Asked, Granted}
 use Rattle.explanation.proofs.DemandThree.{answered, area-kept, bad-tables, demand-3 as grants, refused-10, refused-11, refused-8, refused-9, refused-zero}
+use Rattle.explanation.proofs.DemandTwo.{demand-2 as strict}
+use Rattle.explanation.proofs.distance.Reads as distance
 use Rattle.explanation.proofs.query.Reads as query
 use Rattle.explanation.proofs.check.Reads as check
 
@@ -54,6 +60,23 @@ pub demand-1 : (κs : Lfts 4) (a s : _) (r : Answer) → query.Post κs a r s �
     FirstToHold (judgeTables (now (a .0)) (now (a .1 .0)) (now (a .1 .1 .0))) (length (now (a .1 .1 .1 .1 .1 .0))) (a .1 .1 .1 .0 .0) (a .1 .1 .1 .1 .0 .0)
     r (now (s .1 .1 .1 .1 .1 .0))
 demand-1 κs a s r p = first-to-hold (now (a .0)) (now (a .1 .0)) (now (a .1 .1 .0)) _ _ _ r _ (p .0) (p .1)
+
+-- bad tables come before all else in the other entry points too
+pub bad-first : (κs : Lfts 4) (a s : _) (v : Verdict) → check.Post κs a v s → (n : ℕ) →
+    judgeTables (now (a .0)) (now (a .1 .0)) (now (a .1 .1 .0)) ≡ bad n → v ≡ Rejected n 0
+bad-first κs a s v p n e = p ∙ bad-tables (now (a .0)) (now (a .1 .0)) (now (a .1 .1 .0)) n e 0 0 0 (now (a .1 .1 .1 .0)) .1
+
+pub bad-unmeasured : (κs : Lfts 3) (a s : _) (m : Measured) → distance.Post κs a m s → (n : ℕ) →
+    judgeTables (now (a .0)) (now (a .1 .0)) (now (a .1 .1 .0)) ≡ bad n → m ≡ Unmeasured n
+bad-unmeasured κs a s m p n e = p ∙ ap (λ (j : Judged Tables). measureBy j (a .1 .1 .1 .0 .0) (a .1 .1 .1 .1 .0 .0)) e
+
+-- DEMAND 2 of `check`: n terms are accepted exactly where the words are a strict proof of n terms within the limits
+pub demand-2 : (κs : Lfts 4) (a s : _) (v : Verdict) → check.Post κs a v s → (t : Tables) →
+    judgeTables (now (a .0)) (now (a .1 .0)) (now (a .1 .1 .0)) ≡ good t → (n : ℕ) →
+    (v ≡ Accepted n) ↔ Proves (t .rules) (now (a .1 .1 .1 .0)) n
+demand-2 κs a s v p t e n =
+    subst (λ (x : Verdict). (x ≡ Accepted n) ↔ Proves (t .rules) (now (a .1 .1 .1 .0)) n) (sym p)
+    (strict (now (a .0)) (now (a .1 .0)) (now (a .1 .1 .0)) t e (now (a .1 .1 .1 .0)) n)
 
 -- DEMAND 3 of `query`: what is granted, of the result and of the lent area
 pub demand-3 : (κs : Lfts 4) (a s : _) (r : Answer) → query.Post κs a r s → (t : Tables) →
