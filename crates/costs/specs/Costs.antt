@@ -13,8 +13,8 @@ use Rattle.model.specs.Forest.{cur, nxt, root, walk, costBy, dist}
 use Rattle.paths.specs.Hangs.{depth}
 use Rattle.paths.proofs.Ways.{climbBy}
 use Rattle.entries.specs.Connections.{connectionIn, oldest}
-use Rattle.entries.specs.Nodes.{Known, childIn, countIn}
-use Rattle.forest.specs.Rows.{Climbs, costIn, costWord, listed, rowWords}
+use Rattle.entries.specs.Nodes.{KnownIn, childIn, countIn}
+use Rattle.forest.specs.Rows.{Climbs, costIn, costWord, connectionsOf, rowWords}
 
 abbrev pub costCap : ℕ
 costCap = suc distanceLimit
@@ -80,8 +80,8 @@ pub record Joins (rows : List ℕ) (l r : ℕ) : Type 0 where
 pub record Alike (nodes rows : List ℕ) (a b : ℕ) : Type 0 where
   pub conns : List Connection
   pub charged : Charged conns (nodesIn nodes) rows
-  pub left-known : Known nodes a
-  pub right-known : Known nodes b
+  pub left-known : KnownIn nodes a
+  pub right-known : KnownIn nodes b
   pub even : countIn nodes a ≡ countIn nodes b
   pub left-in : (i : ℕ) → i < countIn nodes a → childIn nodes a i < nodesIn nodes
   pub right-in : (i : ℕ) → i < countIn nodes a → childIn nodes b i < nodesIn nodes
@@ -97,4 +97,4 @@ pub record Payable (nodes rows : List ℕ) (c : Connection) : Type 0 where
 pub record Between (nodes conns : List ℕ) (l r : ℕ) : Type 0 where
   pub left-in : l < nodesIn nodes
   pub right-in : r < nodesIn nodes
-  pub same : root (listed conns) l ≡ root (listed conns) r
+  pub same : root (connectionsOf conns) l ≡ root (connectionsOf conns) r

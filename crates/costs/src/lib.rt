@@ -24,7 +24,7 @@ ghost use Rattle.model.specs.Forest.{cur, nxt, costBy, sumPairs, dist};
 ghost use Rattle.entries.specs.Connections.{Supported};
 ghost use Rattle.model.specs.Tables.{connectionWords};
 ghost use Rattle.entries.specs.Nodes.{nodesOf, childrenIn};
-ghost use Rattle.forest.specs.Rows.{Climbs, listed};
+ghost use Rattle.forest.specs.Rows.{Climbs, connectionsOf};
 ghost use Rattle.costs.specs.Costs.{costCap, held, priced, nodesIn, weigh, Charged, Above, Upward, Joins, Alike, Payable, Between};
 
 // The first sum past the limit: what is above is held here.
@@ -101,7 +101,7 @@ fn connection_cost(nodes: &[u16], rows: &[u16; TABLE_WORDS], c: Connection) -> u
 // Writes the cost of each connection into its current node's row, in the order of age.
 fn fill_costs(nodes: &[u16], conns: &[u16], rows: &mut [u16; TABLE_WORDS])
     requires { ⌜ Supported (now nodes) (nodesIn (now nodes)) (now conns) (length (now conns) / connectionWords) ⌝ }
-    requires { ⌜ Charged (listed (now conns)) (nodesIn (now nodes)) (now rows) ⌝ }
+    requires { ⌜ Charged (connectionsOf (now conns)) (nodesIn (now nodes)) (now rows) ⌝ }
     ensures { λ _. ⌜ now (rows .exit) ≡ priced (nodesOf (now (nodes .entry))) (now (conns .entry)) (length (now (conns .entry)) / connectionWords) (now (rows .entry)) ⌝ }
 {
     let count = conns.len() / CONNECTION_WORDS;
@@ -123,9 +123,9 @@ pub fn distance(
     right: NodeNo,
 ) -> usize
     requires { ⌜ Supported (now nodes) (nodesIn (now nodes)) (now conns) (length (now conns) / connectionWords) ⌝ }
-    requires { ⌜ Charged (listed (now conns)) (nodesIn (now nodes)) (now rows) ⌝ }
+    requires { ⌜ Charged (connectionsOf (now conns)) (nodesIn (now nodes)) (now rows) ⌝ }
     requires { ⌜ Between (now nodes) (now conns) (left .0) (right .0) ⌝ }
-    ensures { λ r. ⌜ r ≡ held (dist (nodesOf (now (nodes .entry))) (listed (now (conns .entry))) (left .0) (right .0)) ⌝ }
+    ensures { λ r. ⌜ r ≡ held (dist (nodesOf (now (nodes .entry))) (connectionsOf (now (conns .entry))) (left .0) (right .0)) ⌝ }
     ensures { λ _. ⌜ now (rows .exit) ≡ priced (nodesOf (now (nodes .entry))) (now (conns .entry)) (length (now (conns .entry)) / connectionWords) (now (rows .entry)) ⌝ }
 {
     fill_costs(nodes, conns, rows);

@@ -20,7 +20,7 @@ use Rattle.model.specs.declared.Direction.the-variants.{Forward}
 use Rattle.model.specs.declared.Justification.{Justification}
 use Rattle.model.specs.declared.Justification.the-variants.{Congruence, Rule as byRule}
 use Rattle.laws.proofs.Judging.{first-bad, one-more, taken, whole}
-use Rattle.paths.specs.Hangs.{Accepted}
+use Rattle.paths.specs.Hangs.{AcceptedConnections}
 use Rattle.entries.specs.Connections.{connectionIn, connectionsTo, directionIn, oldest, present, whyIn}
 
 pub is-forward : (f : ℕ) → (f ≡ 0 → ⊥) → Forward ≡ directionIn f
@@ -131,7 +131,7 @@ entry-there ws i p = go (connectionEntry ws i) refl
 -- a table of connections, entry by entry
 pub record Connections (ns : List Node) (ws : List ℕ) (k : ℕ) (cs : List Connection) : Type 0 where
   pub is : cs ≡ oldest k ws
-  pub accepted : Accepted ns (oldest k ws)
+  pub accepted : AcceptedConnections ns (oldest k ws)
   pub room : k * connectionWords ≤ length ws
 
 some-same : {A : Type 0} {a b : A} → some a ≡ some b → a ≡ b

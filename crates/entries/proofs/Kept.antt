@@ -8,7 +8,7 @@ use Rattle.model.specs.Limits.{childLimit}
 use Rattle.model.specs.Node.{Node}
 use Rattle.model.specs.Tables.{nodeAt, wordsFrom, nodeWords, countAt, childrenAt, connectionWords, nextAt, whyAt, byRuleAt, forwardAt}
 use Rattle.model.specs.declared.Connection.{Connection}
-use Rattle.paths.specs.Hangs.{Accepted}
+use Rattle.paths.specs.Hangs.{AcceptedConnections}
 use Rattle.entries.specs.Connections.{Supported, connectionIn, oldest}
 use Rattle.entries.specs.Nodes.{NodesStand, countIn, firstNodes}
 
@@ -71,5 +71,5 @@ pub supported-kept : {nodes nodes′ : List ℕ} {n : ℕ} {ws vs : List ℕ} {k
 supported-kept {nodes} {nodes′} {n} {ws} {vs} {k} s f h g =
     record {
       table = nodes-kept nodes′ (s .table) f h;
-      accepted = subst₂ Accepted (nodes-same nodes′ (s .table) f) (oldest-same k ws vs g) (s .accepted);
+      accepted = subst₂ AcceptedConnections (nodes-same nodes′ (s .table) f) (oldest-same k ws vs g) (s .accepted);
     }

@@ -17,7 +17,7 @@ use Rattle.model.specs.Node.{Node, addNode, allBelow, kidsOf, noNode, nodeOf, o
 use Rattle.model.specs.Tables.{entries, nodeAt, nodeEntry, nodeTable, wordsFrom, nodeWords, countAt, childrenAt}
 use Rattle.model.specs.declared.Judgement.the-variants.{Faulty, Taken}
 use Rattle.laws.proofs.Judging.{faulty-bad, first-bad, one-more, taken, taken-good, whole}
-use Rattle.entries.specs.Nodes.{Known, NodesStand, NodesWhole, childrenIn, countIn, firstNodes, nodesTo}
+use Rattle.entries.specs.Nodes.{KnownIn, NodesStand, NodesWhole, childrenIn, countIn, firstNodes, nodesTo}
 
 pub length-nodes : (k : ℕ) (ws : List ℕ) → length (firstNodes k ws) ≡ k
 unfolding firstNodes
@@ -43,7 +43,7 @@ pub operator-in : (k : ℕ) (ws : List ℕ) (n : ℕ) → n < k → opOf (firstN
 unfolding nodeAt
 operator-in k ws n h = ap (λ (x : Node). x .op) (node-in k ws n h)
 
-pub known : {ws : List ℕ} {n : ℕ} (a : ℕ) → NodesStand ws n → a < n → Known ws a
+pub known : {ws : List ℕ} {n : ℕ} (a : ℕ) → NodesStand ws n → a < n → KnownIn ws a
 known a s h =
     record {
       small = omega arith;

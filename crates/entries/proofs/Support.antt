@@ -9,22 +9,22 @@ use Rattle.model.specs.declared.Connection.{Connection}
 use Rattle.model.specs.declared.Justification.the-variants.{Congruence}
 use Rattle.model.specs.Node.{Node}
 use Rattle.model.specs.Forest.{cur, nxt, root}
-use Rattle.paths.specs.Hangs.{Accepted, Sound, Paired}
-use Rattle.entries.specs.Connections.{connectionIn, oldest, Supported, Twins}
+use Rattle.paths.specs.Hangs.{AcceptedConnections, Sound, Paired}
+use Rattle.entries.specs.Connections.{connectionIn, oldest, Supported, TwinsIn}
 use Rattle.entries.specs.Nodes.{firstNodes, countIn, childrenIn}
 use Rattle.paths.proofs.Accept.{sound, kin, paired-length, paired-at}
 use Rattle.entries.proofs.Nodes.{children-in, length-nodes, known}
 use Rattle.entries.proofs.Children.{length-words, words-at}
 
 -- the connection of each age was accepted behind the older ones
-pub sound-at : (ns : List Node) (ws : List ℕ) (k a : ℕ) → Accepted ns (oldest k ws) → a < k → Sound ns (oldest a ws) (connectionIn ws a)
+pub sound-at : (ns : List Node) (ws : List ℕ) (k a : ℕ) → AcceptedConnections ns (oldest k ws) → a < k → Sound ns (oldest a ws) (connectionIn ws a)
 unfolding oldest
 sound-at ns ws zero a s h = absurd (omega arith)
 sound-at ns ws (suc k) a s h =
     elim (ℕ-discrete a k) [ yes e ↦ rw e (sound (s .0)) | no e ↦ sound-at ns ws k a (s .1) (omega arith) ]
 
 -- the older ones of accepted connections are accepted
-pub accepted-older : (ns : List Node) (ws : List ℕ) (k m : ℕ) → k ≤ m → Accepted ns (oldest m ws) → Accepted ns (oldest k ws)
+pub accepted-older : (ns : List Node) (ws : List ℕ) (k m : ℕ) → k ≤ m → AcceptedConnections ns (oldest m ws) → AcceptedConnections ns (oldest k ws)
 unfolding oldest
 accepted-older ns ws k zero h a = let e : k ≡ 0 = omega arith in rw e a
 accepted-older ns ws k (suc m) h a =
@@ -43,7 +43,7 @@ module _ {nodes : List ℕ} {n : ℕ} {conns : List ℕ} {count : ℕ} (s : Supp
   pub next-here : nxt (connectionIn conns a) < n
   next-here = omega (arith, sound-here .next-in, length-nodes n nodes)
 
-  pub twins : connectionIn conns a .why ≡ Congruence → Twins nodes conns a (cur (connectionIn conns a)) (nxt (connectionIn conns a))
+  pub twins : connectionIn conns a .why ≡ Congruence → TwinsIn nodes conns a (cur (connectionIn conns a)) (nxt (connectionIn conns a))
   twins w =
       let cs = oldest a conns in
       let xs = childrenIn nodes (cur c) in

@@ -16,8 +16,8 @@ use Rattle.model.specs.declared.Direction.{Direction}
 use Rattle.model.specs.declared.Direction.the-variants.{Backward, Forward}
 use Rattle.model.specs.declared.Justification.{Justification}
 use Rattle.model.specs.declared.Justification.the-variants.{Congruence, Rule as byRule}
-use Rattle.paths.specs.Hangs.{Accepted}
-use Rattle.entries.specs.Nodes.{Known, NodesStand, childIn, childrenIn, countIn, firstNodes}
+use Rattle.paths.specs.Hangs.{AcceptedConnections}
+use Rattle.entries.specs.Nodes.{KnownIn, NodesStand, childIn, childrenIn, countIn, firstNodes}
 
 -- whether an entry is there: whole, and its fields in their sets
 module _ {A : Type 0} where
@@ -51,7 +51,7 @@ oldest (suc k) ws = connectionIn ws k ∷ oldest k ws
 -- the same connections, accepted over n nodes: all that distances and proofs want
 pub record Supported (nodes : List ℕ) (n : ℕ) (conns : List ℕ) (count : ℕ) : Type 0 where
   pub table : NodesStand nodes n
-  pub accepted : Accepted (firstNodes n nodes) (oldest count conns)
+  pub accepted : AcceptedConnections (firstNodes n nodes) (oldest count conns)
 
 -- what the first k entries of a table of connections, over nodes ns, come to
 abbrev pub connectionsTo : List Node → List ℕ → ℕ → Judged (List Connection)
@@ -63,8 +63,8 @@ supportIn ws cs a b =
     sameOp (getD ws (a * nodeWords) 0) (getD ws (b * nodeWords) 0) && pairsJoined (joined cs) (childrenIn ws a) (childrenIn ws b)
 
 -- two nodes whose children the oldest connections, up to a bound, join pair by pair
-pub record Twins (nodes conns : List ℕ) (bound a b : ℕ) : Type 0 where
-  pub left-known : Known nodes a
-  pub right-known : Known nodes b
+pub record TwinsIn (nodes conns : List ℕ) (bound a b : ℕ) : Type 0 where
+  pub left-known : KnownIn nodes a
+  pub right-known : KnownIn nodes b
   pub even : countIn nodes a ≡ countIn nodes b
   pub joins : (i : ℕ) → i < countIn nodes a → root (oldest bound conns) (childIn nodes a i) ≡ root (oldest bound conns) (childIn nodes b i)

@@ -39,7 +39,7 @@ abbrev pub nodesTo : List ℕ → ℕ → Judged (List Node)
 nodesTo ws k = entries addNode (nodeEntry ws) [] k
 
 -- a node of a table by itself: its words are there, and its children are nodes
-pub record Known (ws : List ℕ) (a : ℕ) : Type 0 where
+pub record KnownIn (ws : List ℕ) (a : ℕ) : Type 0 where
   pub small : a < nodeLimit
   pub room : a * nodeWords + nodeWords ≤ length ws
   pub narrow : countIn ws a ≤ childLimit

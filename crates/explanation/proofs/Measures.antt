@@ -14,7 +14,7 @@ use Rattle.model.specs.Query.{Tables, measure}
 use Rattle.model.specs.Tables.{connectionWords}
 use Rattle.entries.specs.Nodes.{nodesOf}
 use Rattle.entries.specs.Connections.{Supported}
-use Rattle.forest.specs.Rows.{listed}
+use Rattle.forest.specs.Rows.{connectionsOf}
 use Rattle.forest.proofs.Rooted.{rooted}
 use Rattle.costs.specs.Costs.{nodesIn, priced, Charged, Between}
 use Rattle.costs.proofs.Priced.{charged-priced, filled-priced}
@@ -49,7 +49,7 @@ module _ (t : Tables) (l r : ℕ) where
 
 -- what is there once a distance was found
 pub ways : {nws cws rows rows′ : List ℕ} {l r : ℕ} → Supported nws (nodesIn nws) cws (length cws / connectionWords) → Between nws cws l r →
-    dist (nodesOf nws) (listed cws) l r ≤ distanceLimit → Charged (listed cws) (nodesIn nws) rows → rows′ ≡ priced (nodesOf nws) cws (length cws / connectionWords) rows → Ways nws cws l r rows′
+    dist (nodesOf nws) (connectionsOf cws) l r ≤ distanceLimit → Charged (connectionsOf cws) (nodesIn nws) rows → rows′ ≡ priced (nodesOf nws) cws (length cws / connectionWords) rows → Ways nws cws l r rows′
 ways {nws} {cws} {rows} s b h c e =
     let k = length cws / connectionWords in
     let r = rooted s in

@@ -24,7 +24,7 @@ use Rattle.laws.proofs.Judging.{faulty-bad}
 use Rattle.paths.proofs.Laws.{joined-yes}
 use Rattle.entries.specs.Nodes.{NodesWhole, nodesOf}
 use Rattle.entries.specs.Connections.{Supported}
-use Rattle.forest.specs.Rows.{listed}
+use Rattle.forest.specs.Rows.{connectionsOf}
 use Rattle.costs.specs.Costs.{nodesIn, Between}
 use Rattle.flat.proofs.FlatProof.{needed-words}
 use Rattle.flat.proofs.Tables.{table-nodes}
@@ -37,9 +37,9 @@ needed-over ns cs l r h = omega arith
 
 -- the flat proof has the words that are needed
 pub proof-long : {nws cws : List ℕ} {l r : ℕ} → NodesWhole nws → Supported nws (nodesIn nws) cws (length cws / connectionWords) → Between nws cws l r →
-    length (words (flatProof (nodesOf nws) (listed cws) l r)) ≡ needed (nodesOf nws) (listed cws) l r
+    length (words (flatProof (nodesOf nws) (connectionsOf cws) l r)) ≡ needed (nodesOf nws) (connectionsOf cws) l r
 proof-long {nws} {cws} {l} {r} w s b =
-    needed-words (nodesOf nws) (listed cws) (table-nodes nws (nodesOf nws) (w .is)) (s .accepted) l r (joined-yes (listed cws) l r (b .same))
+    needed-words (nodesOf nws) (connectionsOf cws) (table-nodes nws (nodesOf nws) (w .is)) (s .accepted) l r (joined-yes (connectionsOf cws) l r (b .same))
 
 -- an area that is cleared whole
 pub cleared : (ws : List ℕ) (area : ℕ) → length ws ≡ area → take 0 ws ++ replicate (length ws - 0) 0 ≡ replicate area 0

@@ -15,12 +15,12 @@ use Rattle.model.specs.Node.{Node}
 use Rattle.model.specs.Query.{Tables}
 use Rattle.model.specs.Tables.{nodeWords, connectionWords, nodeTable, ruleTable, connectionTable, withNodes, withConnections, judgeTables, measureBy, verdictBy}
 use Rattle.laws.proofs.Judging.{taken-good, faulty-bad}
-use Rattle.paths.specs.Hangs.{Accepted}
+use Rattle.paths.specs.Hangs.{AcceptedConnections}
 use Rattle.entries.specs.Nodes.{NodesWhole, nodesOf}
 use Rattle.entries.specs.Connections.{Supported, oldest}
 use Rattle.entries.proofs.Nodes.{nodes-whole}
 use Rattle.entries.proofs.Connections.{connections}
-use Rattle.forest.specs.Rows.{listed}
+use Rattle.forest.specs.Rows.{connectionsOf}
 
 -- a table that is refused
 module _ (nws rws cws : List ℕ) where
@@ -71,7 +71,7 @@ pub record Whole (nws rws cws : List ℕ) (t : Tables) : Type 0 where
   pub table : NodesWhole nws
   pub support : Supported nws (length nws / nodeWords) cws (length cws / connectionWords)
   pub nodes : t .nodes ≡ nodesOf nws
-  pub conns : t .conns ≡ listed cws
+  pub conns : t .conns ≡ connectionsOf cws
 
 pub whole : (nws rws cws : List ℕ) (t : Tables) → judgeTables nws rws cws ≡ good t → Whole nws rws cws t
 unfolding connectionTable
@@ -85,7 +85,7 @@ whole nws rws cws t e =
     let q : k ≡ length cws / connectionWords = omega (arith, b .room) in
     record {
       table = a;
-      support = record { table = a .stand; accepted = subst (λ (m : ℕ). Accepted (nodesOf nws) (oldest m cws)) q (b .accepted) };
+      support = record { table = a .stand; accepted = subst (λ (m : ℕ). AcceptedConnections (nodesOf nws) (oldest m cws)) q (b .accepted) };
       nodes = ns;
       conns = b .is ∙ ap (λ (m : ℕ). oldest m cws) q;
     }

@@ -8,7 +8,7 @@ use Rattle.model.specs.declared.Answer.{Answer}
 use Rattle.model.specs.declared.Answer.the-variants.{Written, Refused}
 use Rattle.model.specs.Query.{Tables, proofWords, answer}
 use Rattle.entries.specs.Nodes.{nodesOf}
-use Rattle.forest.specs.Rows.{listed}
+use Rattle.forest.specs.Rows.{connectionsOf}
 
 abbrev pub InFront : Answer → Tables → ℕ → ℕ → List ℕ → Type 0
 InFront (Written d w) t l r area = take w area ≡ proofWords t l r
@@ -16,4 +16,4 @@ InFront (Refused n) t l r area = Unit {0}
 
 abbrev pub Answers : List ℕ → List ℕ → List ℕ → ℕ → ℕ → Answer → List ℕ → Type 0
 Answers nws cws before l r a after =
-    (t : Tables) → t .nodes ≡ nodesOf nws → t .conns ≡ listed cws → (a ≡ answer t (length before) l r) × InFront a t l r after
+    (t : Tables) → t .nodes ≡ nodesOf nws → t .conns ≡ connectionsOf cws → (a ≡ answer t (length before) l r) × InFront a t l r after

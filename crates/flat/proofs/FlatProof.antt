@@ -17,7 +17,7 @@ use Rattle.model.specs.Forest.{joined, dist}
 use Rattle.model.specs.Flat.{later, flatProof, needed}
 use Rattle.model.specs.Premise.{Premise}
 use Rattle.terms.proofs.Rows.{length-words}
-use Rattle.paths.specs.Hangs.{Accepted}
+use Rattle.paths.specs.Hangs.{AcceptedConnections}
 use Rattle.paths.proofs.Joined.{joined-root}
 use Rattle.flat.specs.Marks.{OneMarkEach}
 use Rattle.flat.specs.Ends.{first, lastOr, last, Ends}
@@ -29,7 +29,7 @@ use Rattle.flat.proofs.Needed.{later-size}
 use Rattle.flat.proofs.Stepping.{stepping-chain}
 use Rattle.flat.proofs.Steps.{step-way}
 
-module _ (ns : List Node) (cs : List Connection) (nodes : AcceptedNodes ns) (conns : Accepted ns cs) (l r : ℕ)
+module _ (ns : List Node) (cs : List Connection) (nodes : AcceptedNodes ns) (conns : AcceptedConnections ns cs) (l r : ℕ)
     (joins : joined cs l r ≡ true) where
   on-the-way : Way ns l r (later ns cs l r) (dist ns cs l r)
   on-the-way = way ns nodes cs conns l r (joined-root cs l r joins)

@@ -17,7 +17,7 @@ use Rattle.model.specs.Node.{Node, opOf, kidsOf, row, termOf}
 use Rattle.model.specs.Forest.{cur, nxt}
 use Rattle.model.specs.Premise.{InstanceBy, Premise}
 use Rattle.model.specs.Flat.{turned, markFor, markedTerm, within, runs, appended, laterStep, later}
-use Rattle.paths.specs.Hangs.{Accepted, Paired}
+use Rattle.paths.specs.Hangs.{AcceptedConnections, Paired}
 use Rattle.paths.proofs.Accept.{accepted-loose}
 use Rattle.flat.specs.Marks.{marks}
 use Rattle.flat.specs.Ends.{lastOr, Leads}
@@ -103,7 +103,7 @@ module _ (rs : List Rule) (ns : List Node) where
 
   -- accepted connections, each rule connection an instance
   pub record Sound (cs : List Connection) : Type 0 where
-    pub accepted : Accepted ns cs
+    pub accepted : AcceptedConnections ns cs
     pub premise : Premise rs ns cs
 
   module _ (nodes : AcceptedNodes ns) where

@@ -18,7 +18,7 @@ use Rattle.model.specs.Rule.{Rule}
 use Rattle.model.specs.Query.{Tables}
 use Rattle.model.specs.Tables.{ruleTable, judgeTables, onlyIf, wordsFrom, nodeAt, nodeEntry, connectionEntry, andAdd, entries, nodeTable, connectionTable}
 use Rattle.laws.proofs.Judging.{never-good, taken, entries-keep}
-use Rattle.paths.specs.Hangs.{Accepted}
+use Rattle.paths.specs.Hangs.{AcceptedConnections}
 use Rattle.flat.specs.Nodes.{AcceptedNodes}
 use Rattle.flat.specs.Accepted.{AcceptedTables}
 
@@ -86,16 +86,16 @@ connections-more ns cs cs′ c p =
     let q = taken (misplaced ns cs c) 6 _ _ p in
     let s = taken (not (supported ns cs (c .why) (cur c) (nxt c))) 7 _ _ (q .1) in cc
 
-pub table-connections : (ns : List Node) (ws : List ℕ) (cs : List Connection) → connectionTable ns ws ≡ good cs → Accepted ns cs
+pub table-connections : (ns : List Node) (ws : List ℕ) (cs : List Connection) → connectionTable ns ws ≡ good cs → AcceptedConnections ns cs
 unfolding connectionTable addConnection
-table-connections ns ws cs = entries-keep (addConnection ns) (connectionEntry ws) [] (Accepted ns) tt next ((length ws + 4) / 5) cs
+table-connections ns ws cs = entries-keep (addConnection ns) (connectionEntry ws) [] (AcceptedConnections ns) tt next ((length ws + 4) / 5) cs
   where
-    next : (i : ℕ) (a b : List Connection) → Accepted ns a → addConnection ns a (connectionEntry ws i) ≡ good b → Accepted ns b
+    next : (i : ℕ) (a b : List Connection) → AcceptedConnections ns a → addConnection ns a (connectionEntry ws i) ≡ good b → AcceptedConnections ns b
     next i a b k h = go (connectionEntry ws i) h
       where
-        go : (o : Option Connection) → addConnection ns a o ≡ good b → Accepted ns b
+        go : (o : Option Connection) → addConnection ns a o ≡ good b → AcceptedConnections ns b
         go none q = absurd (never-good q)
-        go (some c) q = let e = connections-more ns a b c q in subst (Accepted ns) e (q ∙ ap good (sym e), k)
+        go (some c) q = let e = connections-more ns a b c q in subst (AcceptedConnections ns) e (q ∙ ap good (sym e), k)
 
 pub tables-accepted : (nws rws cws : List ℕ) (t : Tables) → judgeTables nws rws cws ≡ good t → AcceptedTables t
 unfolding judgeTables

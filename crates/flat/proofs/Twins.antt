@@ -11,7 +11,7 @@ use Rattle.model.specs.Node.{Node, opOf, kidsOf}
 use Rattle.model.specs.Term.{sameOp}
 use Rattle.model.specs.Forest.{cur, nxt, joined}
 use Rattle.model.specs.Connect.{pairsJoined, supported}
-use Rattle.paths.specs.Hangs.{Accepted, Paired}
+use Rattle.paths.specs.Hangs.{AcceptedConnections, Paired}
 use Rattle.paths.proofs.Accept.{sound, paired}
 
 -- "equal operators and child counts, and each pair of children equal or joined by older connections alone"
@@ -38,8 +38,8 @@ module _ {ns : List Node} {cs : List Connection} where
       record { ops = eqb-true _ _ (q .0); kids = paired cs (kidsOf ns a) (kidsOf ns b) (q .1) }
 
   -- the ends of an accepted congruence, both ways round
-  pub twins : {c : Connection} → Accepted ns (c ∷ cs) → c .why ≡ Congruence → Twins ns cs (cur c) (nxt c)
+  pub twins : {c : Connection} → AcceptedConnections ns (c ∷ cs) → c .why ≡ Congruence → Twins ns cs (cur c) (nxt c)
   twins {c} a = supported-twins (c .why) (cur c) (nxt c) (sound (a .0) .support)
 
-  pub twins-back : {c : Connection} → Accepted ns (c ∷ cs) → c .why ≡ Congruence → Twins ns cs (nxt c) (cur c)
+  pub twins-back : {c : Connection} → AcceptedConnections ns (c ∷ cs) → c .why ≡ Congruence → Twins ns cs (nxt c) (cur c)
   twins-back a e = twins-turned (twins a e)

@@ -11,7 +11,7 @@ use Rattle.model.specs.Term.{Terms, noTerms, count, join, Narrow}
 use Rattle.model.specs.Node.{Node, kidsOf}
 use Rattle.model.specs.Forest.{cur, nxt, sumPairs, costBy, dist}
 use Rattle.model.specs.Flat.{appended, laterStep, later}
-use Rattle.paths.specs.Hangs.{Loose, Accepted, Paired}
+use Rattle.paths.specs.Hangs.{Loose, AcceptedConnections, Paired}
 use Rattle.paths.proofs.Accept.{accepted-loose}
 use Rattle.paths.proofs.Joined.{dist-sym}
 use Rattle.flat.specs.Marks.{OneMarkEach}
@@ -80,29 +80,29 @@ module _ (ns : List Node) where
           arrives = appended-arrive ns cs proof nodes (λ x y j. known x y j .arrives) (c .why) up a b s;
         }
 
-    own-up : (c : Connection) (cs : List Connection) → Accepted ns (c ∷ cs) → Ways cs →
+    own-up : (c : Connection) (cs : List Connection) → AcceptedConnections ns (c ∷ cs) → Ways cs →
         Way ns (cur c) (nxt c) (laterStep ns cs (later ns cs) c true) (cost cs (dist ns cs) c true)
     own-up c cs a known = own c cs known true (cur c) (nxt c) (twins a)
 
-    own-down : (c : Connection) (cs : List Connection) → Accepted ns (c ∷ cs) → Ways cs →
+    own-down : (c : Connection) (cs : List Connection) → AcceptedConnections ns (c ∷ cs) → Ways cs →
         Way ns (nxt c) (cur c) (laterStep ns cs (later ns cs) c false) (cost cs (dist ns cs) c false)
     own-down c cs a known =
         subst (Way ns (nxt c) (cur c) (laterStep ns cs (later ns cs) c false))
         (cost-turned cs (c .why) (cur c) (nxt c) (accepted-loose ns cs (a .1)) (twins a))
         (own c cs known false (nxt c) (cur c) (twins-back a))
 
-    pub way : (cs : List Connection) → Accepted ns cs → Ways cs
+    pub way : (cs : List Connection) → AcceptedConnections ns cs → Ways cs
     unfolding later dist
     way =
-        walked noTerms join (laterStep ns) 0 _+_ cost (Way ns) way-none way-two (Accepted ns) (λ c cs a. a .1) (accepted-loose ns)
+        walked noTerms join (laterStep ns) 0 _+_ cost (Way ns) way-none way-two (AcceptedConnections ns) (λ c cs a. a .1) (accepted-loose ns)
         own-up own-down
 
     -- the same of what one connection appends, walked up and walked down
-    pub way-up : (c : Connection) (cs : List Connection) → Accepted ns (c ∷ cs) →
+    pub way-up : (c : Connection) (cs : List Connection) → AcceptedConnections ns (c ∷ cs) →
         Way ns (cur c) (nxt c) (laterStep ns cs (later ns cs) c true) (costBy ns (dist ns cs) (c .why) (cur c) (nxt c))
     way-up c cs a = own-up c cs a (way cs (a .1))
 
-    pub way-down : (c : Connection) (cs : List Connection) → Accepted ns (c ∷ cs) →
+    pub way-down : (c : Connection) (cs : List Connection) → AcceptedConnections ns (c ∷ cs) →
         Way ns (nxt c) (cur c) (laterStep ns cs (later ns cs) c false) (costBy ns (dist ns cs) (c .why) (cur c) (nxt c))
     way-down c cs a = own-down c cs a (way cs (a .1))
 

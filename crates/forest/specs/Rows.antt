@@ -48,8 +48,8 @@ abbrev pub depthIn : List ℕ → ℕ → ℕ
 depthIn rows n = getD rows (n * rowWords + depthWord) 0
 
 -- the connections of a table that holds nothing else
-abbrev pub listed : List ℕ → List Connection
-listed conns = oldest (length conns / connectionWords) conns
+abbrev pub connectionsOf : List ℕ → List Connection
+connectionsOf conns = oldest (length conns / connectionWords) conns
 
 -- the age of a node's parent connection, and 1; 0 where it has none
 unfoldable pub ageOf : List Connection → ℕ → ℕ
@@ -72,7 +72,7 @@ pub record Climbs (cs : List Connection) (n : ℕ) (rows : List ℕ) : Type 0 wh
   pub deep : (a : ℕ) → a < n → depthIn rows a ≡ suc (depth cs a)
 
 -- two nodes of a table that can be climbed, whichever connections it stands for
-pub record Ends (rows : List ℕ) (l r : ℕ) : Type 0 where
+pub record EndsIn (rows : List ℕ) (l r : ℕ) : Type 0 where
   pub conns : List Connection
   pub nodes : ℕ
   pub climbs : Climbs conns nodes rows

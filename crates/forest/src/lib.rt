@@ -17,7 +17,7 @@ ghost use Rattle.model.specs.Limits.{nodeLimit};
 ghost use Rattle.model.specs.Forest.{cur, nxt, joined};
 ghost use Rattle.paths.specs.Hangs.{depth};
 ghost use Rattle.paths.specs.Meet.{meetOf};
-ghost use Rattle.forest.specs.Rows.{rowWords, tableWords, nextWord, ageWord, costWord, depthWord, nextIn, ageIn, costIn, depthIn, listed, Rooted, Climbs, Ends, rowsOf};
+ghost use Rattle.forest.specs.Rows.{rowWords, tableWords, nextWord, ageWord, costWord, depthWord, nextIn, ageIn, costIn, depthIn, connectionsOf, Rooted, Climbs, EndsIn, rowsOf};
 ghost use Rattle.forest.specs.Filling.{Tied, DepthsUnknown, DepthsKnown, Sounded, Sounding, Settled, Unsettled};
 
 // The words of a row and of a table, and where in a row each word stands; specs/Rows.antt has the same.
@@ -168,8 +168,8 @@ fn settle_all(n: usize, rows: &mut [u16; TABLE_WORDS])
 
 // Writes the rows of n nodes from accepted connections, with no cost.
 pub fn fill_rows(conns: &[u16], n: usize, rows: &mut [u16; TABLE_WORDS])
-    requires { ⌜ Rooted n (listed (now conns)) × (length (now rows) ≡ tableWords) ⌝ }
-    ensures { λ _. ⌜ now (rows .exit) ≡ rowsOf (listed (now (conns .entry))) n ++ drop (n * rowWords) (now (rows .entry)) ⌝ }
+    requires { ⌜ Rooted n (connectionsOf (now conns)) × (length (now rows) ≡ tableWords) ⌝ }
+    ensures { λ _. ⌜ now (rows .exit) ≡ rowsOf (connectionsOf (now (conns .entry))) n ++ drop (n * rowWords) (now (rows .entry)) ⌝ }
 {
     put_tops(n, rows);
     let count = conns.len() / CONNECTION_WORDS;
@@ -183,7 +183,7 @@ pub fn fill_rows(conns: &[u16], n: usize, rows: &mut [u16; TABLE_WORDS])
 
 // Both ends climb by parent connections until they meet: the deeper one first, the left one where both are as deep.
 pub fn meet(rows: &[u16; TABLE_WORDS], left: NodeNo, right: NodeNo) -> Meeting
-    requires { ⌜ Ends (now rows) (left .0) (right .0) ⌝ }
+    requires { ⌜ EndsIn (now rows) (left .0) (right .0) ⌝ }
     ensures { λ m. ⌜ ((cs : List Connection) (n : ℕ) → Climbs cs n (now (rows .entry)) → left .0 < n → right .0 < n → m ≡ meetOf cs (left .0) (right .0)) ⌝ }
 {
     let mut l = left;
@@ -206,7 +206,7 @@ pub fn meet(rows: &[u16; TABLE_WORDS], left: NodeNo, right: NodeNo) -> Meeting
 
 // Whether connections join two nodes.
 pub fn joined(rows: &[u16; TABLE_WORDS], left: NodeNo, right: NodeNo) -> bool
-    requires { ⌜ Ends (now rows) (left .0) (right .0) ⌝ }
+    requires { ⌜ EndsIn (now rows) (left .0) (right .0) ⌝ }
     ensures { λ r. ⌜ ((cs : List Connection) (n : ℕ) → Climbs cs n (now (rows .entry)) → left .0 < n → right .0 < n → r ≡ joined cs (left .0) (right .0)) ⌝ }
 {
     let m = meet(rows, left, right);

@@ -16,7 +16,7 @@ use Rattle.model.specs.Tables.{childrenAt, connectionWords, nodeWords}
 use Rattle.model.specs.Term.{Terms, size}
 use Rattle.model.specs.Forest.{costBy, cur, dist, nxt}
 use Rattle.model.specs.Flat.{appended, appendedSize, later, laterSize}
-use Rattle.paths.specs.Hangs.{Accepted, Paired}
+use Rattle.paths.specs.Hangs.{AcceptedConnections, Paired}
 use Rattle.paths.proofs.Accept.{accepted-loose}
 use Rattle.entries.specs.Connections.{connectionIn, oldest}
 use Rattle.entries.specs.Nodes.{countIn, nodesOf}
@@ -29,7 +29,7 @@ use Rattle.flat.proofs.Needed.{later-size}
 use Rattle.flat.proofs.Tables.{table-nodes}
 use Rattle.flat.proofs.Twins.{Twins, twins, twins-back}
 use Rattle.flat.proofs.Way.{cost-turned, way, way-down, way-free, way-up}
-use Rattle.forest.specs.Rows.{costIn, listed}
+use Rattle.forest.specs.Rows.{costIn, connectionsOf}
 use Rattle.costs.specs.Costs.{Alike, Filled, costAt, nodesIn, weigh}
 use Rattle.costs.proofs.Payable.{payable}
 use Rattle.trees.specs.Sizes.{heldNodes}
@@ -70,7 +70,7 @@ module _ {nodes conns rows sizes : List ℕ} (w : Counts nodes conns rows sizes)
   abbrev c : Connection
   c = connectionIn conns k
 
-  accepted : Accepted ns (c ∷ older)
+  accepted : AcceptedConnections ns (c ∷ older)
   unfolding oldest
   accepted = accepted-older ns conns (suc k) (length conns / connectionWords) h (w .support .accepted)
 
@@ -127,7 +127,7 @@ module _ {nodes conns rows sizes : List ℕ} (w : Counts nodes conns rows sizes)
     sized n = getD sizes n 0
 
     abbrev counted : Justification → ℕ → ℕ → ℕ
-    counted why a b = appendedBy sized (weigh rows (listed conns)) (pathNodes ups downs (listed conns)) nodes why a b
+    counted why a b = appendedBy sized (weigh rows (connectionsOf conns)) (pathNodes ups downs (connectionsOf conns)) nodes why a b
 
     filled : Filled ns conns rows k
     filled = record { each = λ b q. w .filled .each b (omega arith) }
@@ -146,8 +146,8 @@ module _ {nodes conns rows sizes : List ℕ} (w : Counts nodes conns rows sizes)
     unfolding appendedBy appendedSize costBy
     by-why (byRule n d) a b p q t l = size-exact ns conns rows ups downs sizes (nodesIn nodes) (w .sized) b q
     by-why Congruence a b p q t l =
-        let d = weigh rows (listed conns) in
-        let m = pathNodes ups downs (listed conns) in
+        let d = weigh rows (connectionsOf conns) in
+        let m = pathNodes ups downs (connectionsOf conns) in
         ap₂ (λ (xs ys : List ℕ). heldNodes (runsBy sized d m 1 xs ys)) (sym (children-in (nodesIn nodes) nodes a p))
         (sym (children-in (nodesIn nodes) nodes b q))
         ∙ runs-exact ns conns rows ups downs sizes (nodesIn nodes) (w .sized) k (length conns / connectionWords) filled before (omega arith) 1 1 refl

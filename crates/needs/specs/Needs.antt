@@ -15,7 +15,7 @@ use Rattle.model.specs.Forest.{walk}
 use Rattle.model.specs.Flat.{sum, sizeOf, laterSize, laterSizeStep}
 use Rattle.entries.specs.Connections.{Supported, connectionIn, oldest}
 use Rattle.entries.specs.Nodes.{NodesStand, NodesWhole, childrenIn, nodesOf}
-use Rattle.forest.specs.Rows.{listed}
+use Rattle.forest.specs.Rows.{connectionsOf}
 use Rattle.costs.specs.Costs.{Alike, Charged, Filled, costAt, nodesIn}
 use Rattle.trees.specs.Sizes.{Sized, heldNodes, nodeCap}
 use Rattle.needs.specs.declared.Need.{Need}
@@ -82,7 +82,7 @@ pub record Led (nodes rows sizes : List ℕ) (why : Justification) (a b : ℕ) :
 pub record Counts (nodes conns rows sizes : List ℕ) : Type 0 where
   pub whole : NodesWhole nodes
   pub support : Supported nodes (nodesIn nodes) conns (length conns / connectionWords)
-  pub charged : Charged (listed conns) (nodesIn nodes) rows
+  pub charged : Charged (connectionsOf conns) (nodesIn nodes) rows
   pub filled : Filled (nodesOf nodes) conns rows (length conns / connectionWords)
   pub sized : Sized (nodesOf nodes) sizes (nodesIn nodes)
 

@@ -30,7 +30,7 @@ ghost use Rattle.model.specs.Limits.{nodeLimit, distanceLimit};
 ghost use Rattle.model.specs.Forest.{dist};
 ghost use Rattle.model.specs.Tables.{connectionWords};
 ghost use Rattle.entries.specs.Nodes.{nodesOf, childrenIn};
-ghost use Rattle.forest.specs.Rows.{Climbs, listed};
+ghost use Rattle.forest.specs.Rows.{Climbs, connectionsOf};
 ghost use Rattle.costs.specs.Costs.{nodesIn, weigh, Above, Upward, Joins, Alike, Between};
 ghost use Rattle.trees.specs.Sizes.{heldNodes};
 ghost use Rattle.needs.specs.Needs.{tally, pathNodes, runsBy, appendedBy, Comes, Appends, Led, Needs, Counts, heldWords};
@@ -185,8 +185,8 @@ pub fn words_needed(
 ) -> usize
     requires { ⌜ Counts (now nodes) (now conns) (now rows) (now sizes) ⌝ }
     requires { ⌜ Between (now nodes) (now conns) (left .0) (right .0) ⌝ }
-    requires { ⌜ dist (nodesOf (now nodes)) (listed (now conns)) (left .0) (right .0) ≤ distanceLimit ⌝ }
-    ensures { λ r. ⌜ r ≡ heldWords (nodesOf (now (nodes .entry))) (listed (now (conns .entry))) (left .0) (right .0) ⌝ }
+    requires { ⌜ dist (nodesOf (now nodes)) (connectionsOf (now conns)) (left .0) (right .0) ≤ distanceLimit ⌝ }
+    ensures { λ r. ⌜ r ≡ heldWords (nodesOf (now (nodes .entry))) (connectionsOf (now (conns .entry))) (left .0) (right .0) ⌝ }
 {
     let mut ups = [0u32; NODE_LIMIT];
     let mut downs = [0u32; NODE_LIMIT];

@@ -16,7 +16,7 @@ use Rattle.model.specs.Node.{Node, opOf, kidsOf}
 use Rattle.model.specs.Term.{sameOp}
 use Rattle.model.specs.Forest.{cur, nxt, root, joined, dist, Parent, top, below, parentOf, isTop}
 use Rattle.model.specs.Connect.{misplaced, pairsJoined, supported, addConnection}
-use Rattle.paths.specs.Hangs.{Hangs, Forest, Loose, Accepted, Sound, Within, Paired}
+use Rattle.paths.specs.Hangs.{Hangs, Forest, Loose, AcceptedConnections, Sound, Within, Paired}
 use Rattle.paths.proofs.Laws.{forest-loose}
 use Rattle.paths.proofs.Joined.{joined-root, apart-root, dist-sym}
 
@@ -53,21 +53,21 @@ sound {ns} {cs} {c} p =
     let q = placed ns cs c (a .0) in
     record { current-in = q .0; next-in = q .1; hangs = q .2; support = not-false _ (b .0) }
 
-pub accepted-forest : (ns : List Node) (cs : List Connection) → Accepted ns cs → Forest cs
+pub accepted-forest : (ns : List Node) (cs : List Connection) → AcceptedConnections ns cs → Forest cs
 accepted-forest ns [] a = tt
 accepted-forest ns (c ∷ cs) a = (sound (a .0) .hangs, accepted-forest ns cs (a .1))
 
 -- their ends are nodes of the table
-pub accepted-within : (ns : List Node) (n : ℕ) (cs : List Connection) → length ns ≤ n → Accepted ns cs → Within n cs
+pub accepted-within : (ns : List Node) (n : ℕ) (cs : List Connection) → length ns ≤ n → AcceptedConnections ns cs → Within n cs
 accepted-within ns n [] h a = tt
 accepted-within ns n (c ∷ cs) h a =
     let s = sound (a .0) in (omega (arith, s .current-in), omega (arith, s .next-in), accepted-within ns n cs h (a .1))
 
-pub accepted-loose : (ns : List Node) (cs : List Connection) → Accepted ns cs → Loose cs
+pub accepted-loose : (ns : List Node) (cs : List Connection) → AcceptedConnections ns cs → Loose cs
 accepted-loose ns cs a = forest-loose cs (accepted-forest ns cs a)
 
 -- the distance over accepted connections is the same both ways
-pub accepted-sym : (ns : List Node) (cs : List Connection) (l r : ℕ) → Accepted ns cs → root cs l ≡ root cs r →
+pub accepted-sym : (ns : List Node) (cs : List Connection) (l r : ℕ) → AcceptedConnections ns cs → root cs l ≡ root cs r →
     dist ns cs r l ≡ dist ns cs l r
 accepted-sym ns cs l r a j = dist-sym ns cs l r (accepted-loose ns cs a) j
 

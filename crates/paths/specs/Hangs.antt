@@ -42,9 +42,9 @@ Loose [] = Unit {0}
 Loose (c ∷ cs) = (root cs (cur c) ≡ root cs (nxt c) → ⊥) × Loose cs
 
 -- every connection was accepted after the older ones
-abbrev pub Accepted : List Node → List Connection → Type 0
-Accepted ns [] = Unit {0}
-Accepted ns (c ∷ cs) = (addConnection ns cs (some c) ≡ good (c ∷ cs)) × Accepted ns cs
+abbrev pub AcceptedConnections : List Node → List Connection → Type 0
+AcceptedConnections ns [] = Unit {0}
+AcceptedConnections ns (c ∷ cs) = (addConnection ns cs (some c) ≡ good (c ∷ cs)) × AcceptedConnections ns cs
 
 -- what accepting a connection says of it: both ends are nodes of the table, it hangs, and it is supported by the older ones
 pub record Sound (ns : List Node) (cs : List Connection) (c : Connection) : Type 0 where

@@ -17,7 +17,7 @@ use Rattle.model.specs.Node.{Node, noNode, opOf, kidsOf, row, termOf}
 use Rattle.model.specs.Forest.{root}
 use Rattle.model.specs.Flat.{markFor, markedTerm, runs, appended as appends, later, flatProof}
 use Rattle.terms.proofs.Rows.{join-assoc}
-use Rattle.paths.specs.Hangs.{Accepted, Paired}
+use Rattle.paths.specs.Hangs.{AcceptedConnections, Paired}
 use Rattle.paths.proofs.Accept.{paired-length}
 use Rattle.flat.specs.Ends.{lastOr, last}
 use Rattle.flat.specs.Nodes.{AcceptedNodes}
@@ -128,7 +128,7 @@ module _ {ns : List Node} (nodes : AcceptedNodes ns) where
     rule-down n Backward = by-mark n Backward false true refl
 
   -- a congruence, if the flat proofs of its children are known
-  module _ (os : List TableConnection) (acc : Accepted ns os) (enodes : ℕ → ℕ → Option Trees)
+  module _ (os : List TableConnection) (acc : AcceptedConnections ns os) (enodes : ℕ → ℕ → Option Trees)
       (known : (x y : ℕ) → x < length ns → y < length ns → root os x ≡ root os y → Explained ns os x y (enodes x y)) where
     leading : (xs ys : List ℕ) → Paired os xs ys → Leading ns (later ns os) xs ys
     leading [] [] p = tt

@@ -11,7 +11,7 @@ use lib.ListN.{length}
 use Rattle.model.specs.declared.Connection.{Connection}
 use Rattle.model.specs.Node.{Node}
 use Rattle.model.specs.Forest.{root}
-use Rattle.paths.specs.Hangs.{nextOf, depth, Forest, Accepted}
+use Rattle.paths.specs.Hangs.{nextOf, depth, Forest, AcceptedConnections}
 use Rattle.paths.proofs.Accept.{accepted-forest}
 use Rattle.paths.proofs.Places.{high, low, place}
 use Rattle.paths.proofs.Ways.{climbBy, Lowest, root-climb}
@@ -48,7 +48,7 @@ module _
     {ns : List Node}
     {cs : List Connection}
     {ex : Explain}
-    (acc : Accepted ns cs)
+    (acc : AcceptedConnections ns cs)
     (held : Holds ns cs ex)
     (l r i j : ℕ)
     (l-in : l < length ns)
@@ -148,7 +148,7 @@ module _
   ancestor rounds h = from rounds 0 (λ a b p q e. omega arith) (omega arith)
 
 -- and of two nodes that are not joined it finds none: the Rust's assertion fails
-module _ {ns : List Node} {cs : List Connection} {ex : Explain} (acc : Accepted ns cs) (held : Holds ns cs ex) (l r : ℕ)
+module _ {ns : List Node} {cs : List Connection} {ex : Explain} (acc : AcceptedConnections ns cs) (held : Holds ns cs ex) (l r : ℕ)
     (l-in : l < length ns) (r-in : r < length ns) (apart : root cs l ≡ root cs r → ⊥) where
   never : (a b : ℕ) → climbBy cs a l ≡ climbBy cs b r → ⊥
   never a b e = let f = accepted-forest ns cs acc in apart (sym (root-climb a cs l f) ∙ ap (root cs) e ∙ root-climb b cs r f)

@@ -8,7 +8,7 @@ use lib.ListN.{length}
 use Rattle.model.specs.declared.Connection.{Connection}
 use Rattle.model.specs.Node.{Node}
 use Rattle.model.specs.Forest.{root, walk, below, parentOf}
-use Rattle.paths.specs.Hangs.{nextOf, depth, Forest, Accepted}
+use Rattle.paths.specs.Hangs.{nextOf, depth, Forest, AcceptedConnections}
 use Rattle.paths.proofs.Laws.{root-old, walk-old, parent-old, no-parent}
 use Rattle.paths.proofs.Places.{Place, high, low, place, next-below}
 use Rattle.paths.proofs.Ways.{climbBy}
@@ -29,7 +29,7 @@ pub behind-length : {os cs : List Connection} → Behind os cs → length os ≤
 behind-length all = omega arith
 behind-length (newer b) = omega (arith, behind-length b)
 
-pub accepted-behind : (ns : List Node) {os cs : List Connection} → Behind os cs → Accepted ns cs → Accepted ns os
+pub accepted-behind : (ns : List Node) {os cs : List Connection} → Behind os cs → AcceptedConnections ns cs → AcceptedConnections ns os
 accepted-behind ns all a = a
 accepted-behind ns (newer b) a = accepted-behind ns b (a .1)
 

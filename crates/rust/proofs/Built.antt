@@ -12,7 +12,7 @@ use lib.ListN.{length, set, getElem?, length-set}
 use Rattle.model.specs.declared.Connection.{Connection as TableConnection}
 use Rattle.model.specs.Node.{Node}
 use Rattle.model.specs.Forest.{cur, nxt, root, Parent, top, below, parentOf}
-use Rattle.paths.specs.Hangs.{Accepted, Sound}
+use Rattle.paths.specs.Hangs.{AcceptedConnections, Sound}
 use Rattle.paths.proofs.Accept.{sound}
 use Rattle.rust.specs.Panics.{counted}
 use Rattle.rust.specs.Explain.{Connection, ExplainNode, Memoed, Explain, alone}
@@ -127,7 +127,7 @@ module _ (ns : List Node) (c : TableConnection) (cs : List TableConnection) (e :
   unfolding union
   hung-union rounds = on _ (leads rounds) ∙ on _ first ∙ on _ second ∙ on _ third
 
-built-more : (rounds : ℕ) (ns : List Node) (cs : List TableConnection) → Accepted ns cs → Built (suc rounds) ns cs
+built-more : (rounds : ℕ) (ns : List Node) (cs : List TableConnection) → AcceptedConnections ns cs → Built (suc rounds) ns cs
 unfolding explainOf
 built-more rounds ns [] a =
     record {
@@ -148,6 +148,6 @@ built-more rounds ns (c ∷ cs) a =
       };
     }
 
-pub built : (rounds : ℕ) (ns : List Node) (cs : List TableConnection) → Accepted ns cs → 0 < rounds → Built rounds ns cs
+pub built : (rounds : ℕ) (ns : List Node) (cs : List TableConnection) → AcceptedConnections ns cs → 0 < rounds → Built rounds ns cs
 built zero ns cs a h = absurd (omega arith)
 built (suc rounds) ns cs a h = built-more rounds ns cs a

@@ -17,7 +17,7 @@ use Rattle.rust.proofs.Vectors.{on}
 use Rattle.rust.proofs.Flats.{flats, extend-flats, remove-flats, front, front-last, drop-flats, last-flats, set-flats, pushed-flats}
 
 -- the last term written has as many children as were replaced, and behind them those still to come
-record Holds (before behind proof : Terms) : Type 0 where
+record LoopHolds (before behind proof : Terms) : Type 0 where
   op : ℕ
   mark : Mark
   done : Terms
@@ -39,7 +39,7 @@ ending o before behind t q n j (tree q′ n′ j′ s) =
     record { op = e .op; mark = e .mark; kids = e .kids; is = e .is }
 
 module _ (o p : ℕ) (m : Mark) (k before next behind : Terms) (more : count next ≡ suc (count before)) where
-  holds-next : (f proof : Terms) → Holds before (tree p m k behind) proof → Holds next behind (join proof (within o before behind f))
+  holds-next : (f proof : Terms) → LoopHolds before (tree p m k behind) proof → LoopHolds next behind (join proof (within o before behind f))
   unfolding within last count join
   holds-next noTerms proof h =
       record {
@@ -63,22 +63,22 @@ module _ (o p : ℕ) (m : Mark) (k before next behind : Terms) (more : count nex
       }
 
 -- there is a last term
-no-last : {before behind : Terms} → Holds before behind noTerms → ⊥
+no-last : {before behind : Terms} → LoopHolds before behind noTerms → ⊥
 unfolding count last lastOr
 no-last {behind = behind} h =
     let z : count noTerms ≡ count (tree (h .op) (h .mark) (join (h .done) behind) noTerms) = ap count (h .shape) in omega arith
 
-last-is : {before behind : Terms} (proof : Terms) → Holds before behind proof → lastOf (flats proof) ≡ some (flats (last proof))
+last-is : {before behind : Terms} (proof : Terms) → LoopHolds before behind proof → lastOf (flats proof) ≡ some (flats (last proof))
 last-is noTerms h = absurd (no-last h)
 last-is (tree o m k s) h = last-flats o m k s
 
-whole : {before behind : Terms} (proof : Terms) → Holds before behind proof → join (front proof) (last proof) ≡ proof
+whole : {before behind : Terms} (proof : Terms) → LoopHolds before behind proof → join (front proof) (last proof) ≡ proof
 whole noTerms h = absurd (no-last h)
 whole (tree o m k s) h = front-last o m k s
 
 -- a round writes to the last term what stands there already
 module _ (before behind : Terms) (o : ℕ) (m : Mark) (k : Terms) where
-  same-child : (proof : Terms) → Holds before (tree o m k behind) proof →
+  same-child : (proof : Terms) → LoopHolds before (tree o m k behind) proof →
       setChild (count before) (flats (tree o m k noTerms)) (flats (last proof)) ≡ some (flats (last proof))
   unfolding flats join
   same-child proof h =
@@ -111,7 +111,7 @@ module _ (ns : List Node) (later : ℕ → ℕ → Terms) where
       ∙ ap some (extend-flats (one (termOf ns x)) (row (termOf ns) xs))
 
   -- what a round leaves: the proof with the child's run behind it
-  written : (o : ℕ) (before behind : Terms) (p : ℕ) (n : Mark) (j : Terms) (f proof : Terms) → Holds before (tree p n j behind) proof →
+  written : (o : ℕ) (before behind : Terms) (p : ℕ) (n : Mark) (j : Terms) (f proof : Terms) → LoopHolds before (tree p n j behind) proof →
       extend (extend (dropLast (flats proof)) (flats (last proof))) (pushed o (count before) (flats (join before (tree p n j behind))) (flats f))
       ≡ flats (join proof (within o before behind f))
   written o before behind p n j f proof h =
@@ -131,7 +131,7 @@ module _ (ns : List Node) (later : ℕ → ℕ → Terms) where
       ∙ set-flats before (one (termOf ns y)) behind (t .op) (t .mark) (t .kids)
       ∙ ap (λ (z : Terms). some (flats z)) (sym (join-assoc before (one (termOf ns y)) behind))
 
-  children : (o : ℕ) (before : Terms) (xs ys : List ℕ) → Leading xs ys → (proof : Terms) → Holds before (row (termOf ns) xs) proof →
+  children : (o : ℕ) (before : Terms) (xs ys : List ℕ) → Leading xs ys → (proof : Terms) → LoopHolds before (row (termOf ns) xs) proof →
       childLoop o (count before) (flats (join before (row (termOf ns) xs))) (childFlats xs ys) (flats proof)
       ≡ some (flats (join proof (runs ns later o before xs ys)))
   unfolding childLoop runs row flats count

@@ -11,7 +11,7 @@ use lib.ListN.{length}
 use Rattle.model.specs.declared.Connection.{Connection}
 use Rattle.model.specs.Node.{Node}
 use Rattle.model.specs.Forest.{cur, nxt, top, below, parentOf}
-use Rattle.paths.specs.Hangs.{nextOf, depth, Forest, Accepted}
+use Rattle.paths.specs.Hangs.{nextOf, depth, Forest, AcceptedConnections}
 use Rattle.paths.proofs.Accept.{accepted-forest}
 use Rattle.paths.proofs.Places.{high, low, place, next-below}
 use Rattle.paths.proofs.Ways.{climbBy, next-high, depth-climb}
@@ -23,7 +23,7 @@ use Rattle.rust.proofs.Built.{Holds}
 use Rattle.rust.proofs.Inside.{parent-is, parent-next, parent-up, next-inside, climb-inside}
 use Rattle.rust.proofs.Heights.{climb-add, costUp, cost-add, over, over-same, over-other, onto, far, Memo, raised, Full}
 
-module _ {ns : List Node} {cs : List Connection} {ex : Explain} (acc : Accepted ns cs) (held : Holds ns cs ex) where
+module _ {ns : List Node} {cs : List Connection} {ex : Explain} (acc : AcceptedConnections ns cs) (held : Holds ns cs ex) where
   abbrev pub f : Forest cs
   f = accepted-forest ns cs acc
 

@@ -12,7 +12,7 @@ use lib.ListN.{length}
 use Rattle.model.specs.declared.Connection.{Connection}
 use Rattle.model.specs.Node.{Node}
 use Rattle.model.specs.Forest.{cur, nxt, root, dist, costBy, below, parentOf}
-use Rattle.paths.specs.Hangs.{depth, Forest, Accepted}
+use Rattle.paths.specs.Hangs.{depth, Forest, AcceptedConnections}
 use Rattle.paths.proofs.Joined.{dist-self}
 use Rattle.paths.proofs.Bound.{depth-le}
 use Rattle.paths.proofs.Accept.{accepted-forest}
@@ -33,7 +33,7 @@ use Rattle.rust.proofs.Climbing.{depth-is, Compressed, Reached, Pays, c
 use Rattle.rust.proofs.Reaching.{measure-little, reached}
 use Rattle.rust.proofs.Paying.{costs, paid}
 
-module _ {ns : List Node} {cs : List Connection} {ex : Explain} (nodes : AcceptedNodes ns) (acc : Accepted ns cs) (held : Holds ns cs ex) where
+module _ {ns : List Node} {cs : List Connection} {ex : Explain} (nodes : AcceptedNodes ns) (acc : AcceptedConnections ns cs) (held : Holds ns cs ex) where
   -- a climb that was done stays as it was while another one goes on
   kept : {h : ℕ → ℕ} {n : ℕ} {o : Option Found} (c : Compressed acc held h n o) (x : ℕ) → Full ns cs h x → c .heights x ≡ h x
   kept {h} {n} c x p =
@@ -231,13 +231,13 @@ begins ns cs =
     }
 
 -- THE RUST'S DISTANCE, nested as deep as there are connections and one, is document 01's
-module _ {ns : List Node} {cs : List Connection} {ex : Explain} (nodes : AcceptedNodes ns) (acc : Accepted ns cs) (held : Holds ns cs ex)
+module _ {ns : List Node} {cs : List Connection} {ex : Explain} (nodes : AcceptedNodes ns) (acc : AcceptedConnections ns cs) (held : Holds ns cs ex)
     (nesting rounds : ℕ) (nested : length cs < nesting) (enough : 2 * length cs + 1 < rounds) (l r : ℕ) (l-in : l < length ns) (r-in : r < length ns) where
   pub distance-is : root cs l ≡ root cs r → Pays acc held (λ _. 0) (dist ns cs l r) (distanceBetween nesting rounds ns ex (unclimbed (length ns)) l r)
   distance-is same = known-all nodes acc held rounds enough nesting cs all nested l r l-in r-in same (unclimbed (length ns)) (λ _. 0) (begins ns cs)
 
 -- and there is none where document 01 says 9
-pub no-distance : {ns : List Node} {cs : List Connection} {ex : Explain} → Accepted ns cs → Holds ns cs ex → (nesting rounds : ℕ) (memo : List Climbed)
+pub no-distance : {ns : List Node} {cs : List Connection} {ex : Explain} → AcceptedConnections ns cs → Holds ns cs ex → (nesting rounds : ℕ) (memo : List Climbed)
     (l r : ℕ) → l < length ns → r < length ns → (root cs l ≡ root cs r → ⊥) → distanceBetween nesting rounds ns ex memo l r ≡ none
 unfolding distanceBetween
 no-distance acc held zero rounds memo l r l-in r-in apart = refl

@@ -12,7 +12,7 @@ use Rattle.model.specs.Node.{Node, opOf, termOf}
 use Rattle.model.specs.Forest.{cur, nxt, root, Hop, path}
 use Rattle.model.specs.Flat.{laterStep, later, flatProof}
 use Rattle.terms.proofs.Rows.{join-assoc, join-none}
-use Rattle.paths.specs.Hangs.{Accepted}
+use Rattle.paths.specs.Hangs.{AcceptedConnections}
 use Rattle.paths.proofs.Accept.{accepted-loose, sound}
 use Rattle.paths.proofs.Climbed.{hopOf}
 use Rattle.flat.specs.Ends.{lastOr, last, Leads}
@@ -103,14 +103,14 @@ module _ (ns : List Node) (adjacent : Connection → Option TreeTerm) where
         folds = a .folds;
       }
 
-module _ {ns : List Node} {cs : List TableConnection} {ex : Explain} (nodes : AcceptedNodes ns) (acc : Accepted ns cs) (held : Holds ns cs ex)
+module _ {ns : List Node} {cs : List TableConnection} {ex : Explain} (nodes : AcceptedNodes ns) (acc : AcceptedConnections ns cs) (held : Holds ns cs ex)
     (rounds : ℕ) (enough : 2 * length cs < rounds) (room : length ns ≤ rounds) where
   abbrev Known : ℕ → Type 0
   Known nesting = (os : List TableConnection) → Behind os cs → length os < nesting → (l r : ℕ) → l < length ns → r < length ns → root os l ≡ root os r →
       Explained ns os l r (explainEnodes nesting rounds ns ex l r)
 
   record Within (nesting : ℕ) (os : List TableConnection) : Type 0 where
-    accepted : Accepted ns os
+    accepted : AcceptedConnections ns os
     behind : Behind os cs
     few : length os ≤ nesting
 

@@ -11,7 +11,7 @@ use lib.ListN.{length}
 use Rattle.model.specs.declared.Connection.{Connection as TableConnection}
 use Rattle.model.specs.Node.{Node, kidsOf, allBelow}
 use Rattle.model.specs.Forest.{cur, Parent, top, below, parentOf}
-use Rattle.paths.specs.Hangs.{nextOf, Accepted}
+use Rattle.paths.specs.Hangs.{nextOf, AcceptedConnections}
 use Rattle.paths.proofs.Accept.{sound}
 use Rattle.paths.proofs.Laws.{parent-new, parent-old, no-parent}
 use Rattle.paths.proofs.Places.{next-below, next-top}
@@ -27,10 +27,10 @@ use Rattle.rust.proofs.Built.{parentIn, Holds}
 -- a node's parent connection: it is the node's own, and was accepted after the older ones
 pub record Hung (ns : List Node) (cs : List TableConnection) (n : ℕ) (c : TableConnection) (o : List TableConnection) : Type 0 where
   pub here : n ≡ cur c
-  pub accepted : Accepted ns (c ∷ o)
+  pub accepted : AcceptedConnections ns (c ∷ o)
   pub behind : Behind (c ∷ o) cs
 
-pub hung-by : (ns : List Node) (cs : List TableConnection) (n : ℕ) {c : TableConnection} {o : List TableConnection} → Accepted ns cs →
+pub hung-by : (ns : List Node) (cs : List TableConnection) (n : ℕ) {c : TableConnection} {o : List TableConnection} → AcceptedConnections ns cs →
     parentOf cs n ≡ below c o → Hung ns cs n c o
 unfolding parentOf
 hung-by ns [] n a p = absurd (no-parent p)
@@ -60,7 +60,7 @@ module _ (cs : List TableConnection) (n : ℕ) where
   unfolding parentIn
   parent-below q = rw q refl
 
-module _ (ns : List Node) (cs : List TableConnection) (a : Accepted ns cs) where
+module _ (ns : List Node) (cs : List TableConnection) (a : AcceptedConnections ns cs) where
   pub next-inside : (n : ℕ) → n < length ns → nextOf cs n < length ns
   next-inside n h = go (parentOf cs n) refl
     where

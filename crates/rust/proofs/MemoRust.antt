@@ -13,7 +13,7 @@ use lib.ListN.{length}
 use Rattle.model.specs.declared.Connection.{Connection as TableConnection}
 use Rattle.model.specs.Node.{Node}
 use Rattle.model.specs.Forest.{cur, nxt, root, Hop, path}
-use Rattle.paths.specs.Hangs.{Accepted}
+use Rattle.paths.specs.Hangs.{AcceptedConnections}
 use Rattle.paths.proofs.Accept.{sound}
 use Rattle.paths.proofs.Joined.{root-ends, path-old, path-self}
 use Rattle.paths.proofs.Laws.{root-old, walk-up, walk-down, walk-self}
@@ -73,7 +73,7 @@ record Known (cs : List TableConnection) (l r next : ℕ) : Type 0 where
   found : neighborTo (neighborsIn cs l) l r ≡ asWalked hop
   byRule : isRule (asWalked hop .justification) ≡ true
 
-module _ (ns : List Node) (c : TableConnection) (cs : List TableConnection) (a : Accepted ns (c ∷ cs)) (rules : isRule (justified (c .why)) ≡ true) where
+module _ (ns : List Node) (c : TableConnection) (cs : List TableConnection) (a : AcceptedConnections ns (c ∷ cs)) (rules : isRule (justified (c .why)) ≡ true) where
   apart : root cs (cur c) ≡ root cs (nxt c) → ⊥
   apart = sound (a .0) .hangs .apart
 
@@ -162,7 +162,7 @@ asked m ms l r next p =
       | no x ↦ inr (rw (ne-eqb _ _ x) at p)
     ]
 
-known : (ns : List Node) (cs : List TableConnection) → Accepted ns cs → (l r next : ℕ) → memoed (memoIn cs) l r ≡ some next → Known cs l r next
+known : (ns : List Node) (cs : List TableConnection) → AcceptedConnections ns cs → (l r next : ℕ) → memoed (memoIn cs) l r ≡ some next → Known cs l r next
 unfolding memoed
 known ns [] a l r next p = absurd (none-ne-some next p)
 known ns (c ∷ cs) a l r next p = go (justified (c .why)) refl (known ns cs (a .1) l r next)
@@ -193,7 +193,7 @@ some-connection [] l r next p = absurd (none-ne-some next p)
 some-connection (c ∷ cs) l r next p = omega arith
 
 -- one round and more
-module _ {ns : List Node} {cs : List TableConnection} {ex : Explain} (acc : Accepted ns cs) (held : Holds ns cs ex)
+module _ {ns : List Node} {cs : List TableConnection} {ex : Explain} (acc : AcceptedConnections ns cs) (held : Holds ns cs ex)
     (rounds : ℕ) (enough : 2 * length cs < suc rounds) (l r : ℕ) (l-in : l < length ns) (r-in : r < length ns) where
   in-memo : {o : Option ℕ} → memoed (memoIn cs) l r ≡ o → memoed (ex .memo) l r ≡ o
   in-memo p = ap (λ (m : List Memoed). memoed m l r) (held .memo) ∙ p
@@ -243,7 +243,7 @@ module _ {ns : List Node} {cs : List TableConnection} {ex : Explain} (acc : Acce
       go (some next) p = absurd (apart (known ns cs acc l r next p .joins))
 
 -- THE RUST'S PATH, by the memo that `union` fills, is document 01's
-module _ {ns : List Node} {cs : List TableConnection} {ex : Explain} (acc : Accepted ns cs) (held : Holds ns cs ex) where
+module _ {ns : List Node} {cs : List TableConnection} {ex : Explain} (acc : AcceptedConnections ns cs) (held : Holds ns cs ex) where
   pub optimized : (rounds : ℕ) → 2 * length cs < rounds → (l r : ℕ) → l < length ns → r < length ns → root cs l ≡ root cs r →
       Walks cs l r (getPath rounds ex [] l r)
   optimized zero h l r l-in r-in same = absurd (omega arith)

@@ -7,7 +7,7 @@ use native.Mathlib.Nat.{add-assoc, zero-add, add-zero}
 use Rattle.model.specs.declared.Connection.{Connection}
 use Rattle.model.specs.Node.{Node}
 use Rattle.model.specs.Forest.{root, below, parentOf}
-use Rattle.paths.specs.Hangs.{Accepted}
+use Rattle.paths.specs.Hangs.{AcceptedConnections}
 use Rattle.paths.proofs.Accept.{accepted-forest}
 use Rattle.paths.proofs.Places.{high, low, place}
 use Rattle.paths.proofs.Ways.{climbBy, depth-climb, Lowest, meets}
@@ -15,7 +15,7 @@ use Rattle.rust.proofs.Behind.{Behind, accepted-behind, parent-behind, 
 use Rattle.rust.proofs.Inside.{hung-by}
 use Rattle.rust.proofs.Trails.{lowest-any}
 
-module _ (ns : List Node) {os cs : List Connection} (acc : Accepted ns cs) (b : Behind os cs) where
+module _ (ns : List Node) {os cs : List Connection} (acc : AcceptedConnections ns cs) (b : Behind os cs) where
   -- below the node where the two climbs meet, the left one goes by older connections
   pub left-older : (l r i j : ℕ) → root os l ≡ root os r → Lowest cs l r i j → (k : ℕ) → k < i → {c : Connection} {o : List Connection} →
       parentOf cs (climbBy cs k l) ≡ below c o → Behind (c ∷ o) os

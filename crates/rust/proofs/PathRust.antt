@@ -10,7 +10,7 @@ use lib.ListN.{length}
 use Rattle.model.specs.declared.Connection.{Connection as TableConnection}
 use Rattle.model.specs.Node.{Node}
 use Rattle.model.specs.Forest.{nxt, root, path}
-use Rattle.paths.specs.Hangs.{nextOf, depth, Forest, Accepted}
+use Rattle.paths.specs.Hangs.{nextOf, depth, Forest, AcceptedConnections}
 use Rattle.paths.proofs.Accept.{accepted-forest}
 use Rattle.paths.proofs.Bound.{depth-le}
 use Rattle.paths.proofs.Places.{high, low, place}
@@ -31,7 +31,7 @@ connOf _ _ c u = up c ∷ []
 abbrev connectionsUp : List TableConnection → ℕ → ℕ → List Connection
 connectionsUp cs i n = ups [] _++_ connOf cs i n
 
-module _ {ns : List Node} {cs : List TableConnection} {ex : Explain} (acc : Accepted ns cs) (held : Holds ns cs ex) where
+module _ {ns : List Node} {cs : List TableConnection} {ex : Explain} (acc : AcceptedConnections ns cs) (held : Holds ns cs ex) where
   abbrev f : Forest cs
   f = accepted-forest ns cs acc
 
@@ -115,7 +115,7 @@ pub record Walks (cs : List TableConnection) (l r : ℕ) (found : Option Path) :
   pub is : found ≡ some way
   pub same : walked way ≡ map asWalked (path cs l r)
 
-module _ {ns : List Node} {cs : List TableConnection} {ex : Explain} (acc : Accepted ns cs) (held : Holds ns cs ex)
+module _ {ns : List Node} {cs : List TableConnection} {ex : Explain} (acc : AcceptedConnections ns cs) (held : Holds ns cs ex)
     (rounds : ℕ) (enough : 2 * length cs < rounds) (l r : ℕ) (l-in : l < length ns) (r-in : r < length ns) where
   pub unoptimized : root cs l ≡ root cs r → Walks cs l r (getPathUnoptimized rounds ex l r)
   unfolding getPathUnoptimized path

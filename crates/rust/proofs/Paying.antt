@@ -11,7 +11,7 @@ use Rattle.model.specs.declared.Justification.{Justification}
 use Rattle.model.specs.declared.Justification.the-variants.{Rule as byRule, Congruence}
 use Rattle.model.specs.Node.{Node, noNode, kidsOf}
 use Rattle.model.specs.Forest.{cur, nxt, root, dist, costBy, sumPairs}
-use Rattle.paths.specs.Hangs.{Accepted, Paired}
+use Rattle.paths.specs.Hangs.{AcceptedConnections, Paired}
 use Rattle.paths.proofs.Accept.{sound, kin}
 use Rattle.flat.specs.Nodes.{AcceptedNodes}
 use Rattle.rust.specs.Explain.{Explain, justified}
@@ -29,7 +29,7 @@ answer memo cost = some (record { memo = memo; cost = cost })
 pub costs : (memo : List Climbed) {a b : ℕ} → a ≡ b → answer memo a ≡ answer memo b
 costs memo p = ap (answer memo) p
 
-module _ {ns : List Node} {cs : List Connection} {ex : Explain} (nodes : AcceptedNodes ns) (acc : Accepted ns cs) (held : Holds ns cs ex) where
+module _ {ns : List Node} {cs : List Connection} {ex : Explain} (nodes : AcceptedNodes ns) (acc : AcceptedConnections ns cs) (held : Holds ns cs ex) where
   -- one connection, if the distances of its children are known
   module _ (between : Between) (o : List Connection)
       (known : (l r : ℕ) → l < length ns → r < length ns → root o l ≡ root o r → (memo : List Climbed) (h : ℕ → ℕ) → Memo ns cs memo h →
@@ -51,7 +51,7 @@ module _ {ns : List Node} {cs : List Connection} {ex : Explain} (nodes : Accepte
           more = λ z. omega (arith, a .more z, b .more z);
         }
 
-    pub paid : (c : Connection) → Accepted ns (c ∷ o) → (memo : List Climbed) (h : ℕ → ℕ) → Memo ns cs memo h →
+    pub paid : (c : Connection) → AcceptedConnections ns (c ∷ o) → (memo : List Climbed) (h : ℕ → ℕ) → Memo ns cs memo h →
         Pays acc held h (costBy ns (dist ns o) (c .why) (cur c) (nxt c)) (connectionDistance between ns memo (justified (c .why)) (cur c) (nxt c))
     unfolding costBy
     paid c a memo h m = go (c .why) refl

@@ -12,7 +12,7 @@ use lib.ListN.{length}
 use Rattle.model.specs.declared.Connection.{Connection}
 use Rattle.model.specs.Node.{Node}
 use Rattle.model.specs.Forest.{cur, nxt, below, parentOf}
-use Rattle.paths.specs.Hangs.{nextOf, depth, Accepted}
+use Rattle.paths.specs.Hangs.{nextOf, depth, AcceptedConnections}
 use Rattle.paths.proofs.Accept.{accepted-forest}
 use Rattle.paths.proofs.Bound.{depth-le}
 use Rattle.paths.proofs.Places.{high, low, place, next-below}
@@ -39,7 +39,7 @@ waits-not : (k : ℕ) → 0 < k → waits k ≡ 0
 waits-not zero h = absurd (omega arith)
 waits-not (suc k) h = refl
 
-module _ {ns : List Node} {cs : List Connection} {ex : Explain} (acc : Accepted ns cs) (held : Holds ns cs ex) where
+module _ {ns : List Node} {cs : List Connection} {ex : Explain} (acc : AcceptedConnections ns cs) (held : Holds ns cs ex) where
   abbrev pub measure : (ℕ → ℕ) → ℕ → ℕ
   measure h n = 2 * depth cs (onto cs h n) + waits (h (onto cs h n))
 

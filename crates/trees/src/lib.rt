@@ -24,7 +24,7 @@ ghost use Rattle.model.specs.Term.{one, words, marked, directionWord};
 ghost use Rattle.model.specs.Node.{termOf};
 ghost use Rattle.model.specs.Flat.{sum, sizeOf, walked, markedTerm};
 ghost use Rattle.model.specs.Tables.{nodeWords};
-ghost use Rattle.entries.specs.Nodes.{nodesOf, NodesWhole, Known, childrenIn};
+ghost use Rattle.entries.specs.Nodes.{nodesOf, NodesWhole, KnownIn, childrenIn};
 ghost use Rattle.trees.specs.Area.{splice, part, WholeNodes, bare, rootIn, directionOf};
 ghost use Rattle.trees.specs.Sizes.{heldNodes, tableBound, filledSizes};
 
@@ -78,7 +78,7 @@ pub fn words_of(sizes: &[u32; NODE_LIMIT], n: NodeNo) -> usize
 
 // The nodes of the trees of n's children, from child i on.
 pub fn sizes_from(nodes: &[u16], sizes: &[u32; NODE_LIMIT], n: NodeNo, i: usize) -> usize
-    requires { ⌜ Known (now nodes) (n .0) ⌝ }
+    requires { ⌜ KnownIn (now nodes) (n .0) ⌝ }
     ensures { λ r. ⌜ (r ≡ sum (λ k. getD (now (sizes .entry)) k 0) (drop i (childrenIn (now (nodes .entry)) (n .0)))) × (r ≤ childLimit * tableBound) ⌝ }
 {
     let count = count_of(nodes, n);
@@ -117,7 +117,7 @@ fn put_node(area: &mut [u16], at: usize, op: OpNo, count: u16, mark: u16, rule: 
 
 // Writes the root of n's tree, with a mark or without.
 fn put_root(nodes: &[u16], n: NodeNo, area: &mut [u16], at: usize, mark: u16, rule: RuleNo)
-    requires { ⌜ Known (now nodes) (n .0) × (at + flatWords ≤ length (now area)) ⌝ }
+    requires { ⌜ KnownIn (now nodes) (n .0) × (at + flatWords ≤ length (now area)) ⌝ }
     ensures { λ _. ⌜ now (area .exit) ≡ splice (now (area .entry)) at (rootIn (now (nodes .entry)) (n .0) mark (rule .0)) ⌝ }
 {
     put_node(

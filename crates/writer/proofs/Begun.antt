@@ -9,12 +9,12 @@ use Rattle.model.specs.Limits.{distanceLimit, termLimit}
 use Rattle.model.specs.Tables.{connectionWords}
 use Rattle.model.specs.Term.{count}
 use Rattle.model.specs.Flat.{later}
-use Rattle.paths.specs.Hangs.{Accepted}
+use Rattle.paths.specs.Hangs.{AcceptedConnections}
 use Rattle.paths.specs.Meet.{topOf}
 use Rattle.entries.specs.Connections.{oldest}
 use Rattle.entries.proofs.Support.{accepted-older}
 use Rattle.entries.specs.Nodes.{nodesOf}
-use Rattle.forest.specs.Rows.{costIn, listed}
+use Rattle.forest.specs.Rows.{costIn, connectionsOf}
 use Rattle.forest.proofs.Older.{kept, walk-older}
 use Rattle.costs.specs.Costs.{Filled}
 use Rattle.flat.specs.Ends.{Leads}
@@ -32,7 +32,7 @@ module _ {nodes conns rows sizes : List ℕ} (k : Counts nodes conns rows sizes)
   pub accepted-nodes : AcceptedNodes (nodesOf nodes)
   accepted-nodes = table-nodes nodes (nodesOf nodes) (k .whole .is)
 
-  pub accepted-below : (bound : ℕ) → bound ≤ length conns / connectionWords → Accepted (nodesOf nodes) (oldest bound conns)
+  pub accepted-below : (bound : ℕ) → bound ≤ length conns / connectionWords → AcceptedConnections (nodesOf nodes) (oldest bound conns)
   accepted-below bound h = accepted-older (nodesOf nodes) conns bound (length conns / connectionWords) h (k .support .accepted)
 
   module _ {bound l r : ℕ} (h : Reached nodes conns bound l r) where
@@ -46,31 +46,31 @@ module _ {nodes conns rows sizes : List ℕ} (k : Counts nodes conns rows sizes)
         let filled : Filled (nodesOf nodes) conns rows bound = record { each = λ b q. k .filled .each b (omega arith) } in
         trip (nodesOf nodes) conns bound accepted-nodes (accepted-below bound few) filled l r (h .same)
 
-    joined-all : root (listed conns) l ≡ root (listed conns) r
+    joined-all : root (connectionsOf conns) l ≡ root (connectionsOf conns) r
     joined-all = kept bound (length conns / connectionWords) conns l r (h .few) (h .same) .joins
 
     -- by all connections it is the path by those below the bound
-    same-legs : legs rows (listed conns) l r ≡ legs rows (oldest bound conns) l r
+    same-legs : legs rows (connectionsOf conns) l r ≡ legs rows (oldest bound conns) l r
     unfolding legs
     same-legs =
         walk-older [] _++_ (λ older _ c u. costly (costIn rows (cur c)) (record { age = length older; up = u }))
         bound (length conns / connectionWords) conns l r (h .few) (h .same)
 
     module _ (used : ℕ) (few : used + count (later (nodesOf nodes) (oldest bound conns) l r) ≤ distanceLimit) where
-      fits : used + length (legs rows (listed conns) l r) ≤ distanceLimit
+      fits : used + length (legs rows (connectionsOf conns) l r) ≤ distanceLimit
       fits =
           let t = path-trip in
           let long = chain-long (nodesOf nodes) conns bound l r (legs rows (oldest bound conns) l r) (t .chain) in
           omega (arith, long, ap count (t .row), ap length same-legs)
 
       -- there is room on the trail
-      pub path-room : used + length (ages rows (listed conns) r (topOf (listed conns) l r)) + length (ages rows (listed conns) l (topOf (listed conns) l r)) ≤ termLimit
-      path-room = omega (arith, fits, legs-long rows (listed conns) l r (k .charged .climbs .rooted .forest) joined-all)
+      pub path-room : used + length (ages rows (connectionsOf conns) r (topOf (connectionsOf conns) l r)) + length (ages rows (connectionsOf conns) l (topOf (connectionsOf conns) l r)) ≤ termLimit
+      path-room = omega (arith, fits, legs-long rows (connectionsOf conns) l r (k .charged .climbs .rooted .forest) joined-all)
 
       pub layable : Layable rows used l r
       layable =
           record {
-            conns = listed conns;
+            conns = connectionsOf conns;
             nodes = _;
             climbs = k .charged .climbs;
             left-in = h .left-in;
@@ -79,8 +79,8 @@ module _ {nodes conns rows sizes : List ℕ} (k : Counts nodes conns rows sizes)
             few = path-room;
           }
 
-      pub path-lies : {trail after : List ℕ} {turn top : ℕ} → length trail ≡ termLimit → LaidOut rows (listed conns) trail used l r after turn top →
+      pub path-lies : {trail after : List ℕ} {turn top : ℕ} → length trail ≡ termLimit → LaidOut rows (connectionsOf conns) trail used l r after turn top →
           Lies after turn used (legs rows (oldest bound conns) l r) top
       path-lies {after = after} {turn = turn} {top = top} e w =
           subst (λ (hs : List Leg). Lies after turn used hs top) same-legs
-          (lies rows (listed conns) l r (k .charged .climbs .rooted .forest) joined-all w (omega (arith, fits)))
+          (lies rows (connectionsOf conns) l r (k .charged .climbs .rooted .forest) joined-all w (omega (arith, fits)))

@@ -13,7 +13,7 @@ use Rattle.model.specs.Term.{Terms, one, count, words}
 use Rattle.model.specs.Flat.{flatProof, later, sizeOf}
 use Rattle.terms.proofs.Rows.{length-words, put-words}
 use Rattle.entries.specs.Nodes.{nodesOf}
-use Rattle.forest.specs.Rows.{listed}
+use Rattle.forest.specs.Rows.{connectionsOf}
 use Rattle.costs.specs.Costs.{Between}
 use Rattle.flat.proofs.NodeTerms.{term-size}
 use Rattle.flat.proofs.Way.{way}
@@ -24,7 +24,7 @@ use Rattle.trees.proofs.Around.{around-none}
 use Rattle.trees.proofs.Bare.{bare-term, whole-words}
 use Rattle.writer.specs.Appends.{termWords}
 use Rattle.needs.specs.Needs.{Counts}
-use Rattle.writer.specs.Written.{postOf, preOf, Asked, Reached, Wrote}
+use Rattle.writer.specs.Written.{postOf, preOf, WriterAsks, Reached, Wrote}
 use Rattle.writer.proofs.Begun.{accepted-below, accepted-nodes}
 use Rattle.writer.proofs.Stands.{Stands, post-is, pre-is, stood}
 
@@ -37,8 +37,8 @@ module _ {nodes conns rows sizes : List ℕ} (k : Counts nodes conns rows sizes)
   reached = record { few = omega arith; left-in = b .left-in; right-in = b .right-in; same = b .same }
 
   -- as many later terms as the distance
-  pub counted : count (later (nodesOf nodes) (listed conns) l r) ≡ dist (nodesOf nodes) (listed conns) l r
-  counted = way (nodesOf nodes) (accepted-nodes k) (listed conns) (accepted-below k (length conns / connectionWords) (omega arith)) l r (b .same) .counted
+  pub counted : count (later (nodesOf nodes) (connectionsOf conns) l r) ≡ dist (nodesOf nodes) (connectionsOf conns) l r
+  counted = way (nodesOf nodes) (accepted-nodes k) (connectionsOf conns) (accepted-below k (length conns / connectionWords) (omega arith)) l r (b .same) .counted
 
 module _ (ns : List Node) (l : ℕ) (f : Terms) (old : List ℕ) {area : List ℕ} {end : ℕ} (room : length (termWords ns l) + length (words f) ≡ length old)
     (first : area ≡ splice old 0 (termWords ns l)) (behind : end ≡ length (termWords ns l)) where
@@ -66,7 +66,7 @@ module _ (ns : List Node) (l : ℕ) (f : Terms) (old : List ℕ) {area : List �
       ∙ around-none f
 
   pub first-asked : {trail : List ℕ} → length trail ≡ termLimit → length old ≤ wordLimit → count f ≤ distanceLimit →
-      Asked trail area (bareSpot end) (termWords ns l) f 0
+      WriterAsks trail area (bareSpot end) (termWords ns l) f 0
   first-asked long small few =
       let e = ap length first ∙ length-splice old 0 (termWords ns l) (omega arith) in
       record {
@@ -88,9 +88,9 @@ module _ (ns : List Node) (l : ℕ) (f : Terms) (old : List ℕ) {area : List �
       ∙ splice-all old (t ++ words f) (length-append t (words f) ∙ room)
 
 pub proof-words : (nodes conns : List ℕ) (l r : ℕ) →
-    words (flatProof (nodesOf nodes) (listed conns) l r) ≡ termWords (nodesOf nodes) l ++ words (later (nodesOf nodes) (listed conns) l r)
+    words (flatProof (nodesOf nodes) (connectionsOf conns) l r) ≡ termWords (nodesOf nodes) l ++ words (later (nodesOf nodes) (connectionsOf conns) l r)
 unfolding flatProof
-proof-words nodes conns l r = put-words (termOf (nodesOf nodes) l) (later (nodesOf nodes) (listed conns) l r)
+proof-words nodes conns l r = put-words (termOf (nodesOf nodes) l) (later (nodesOf nodes) (connectionsOf conns) l r)
 
 pub first-long : (ns : List Node) (l : ℕ) → length (termWords ns l) ≡ flatWords * sizeOf ns l
 first-long ns l = omega (arith, length-words (one (termOf ns l)), term-size ns l)

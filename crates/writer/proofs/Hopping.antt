@@ -11,14 +11,14 @@ use Rattle.model.specs.Node.{Node, termOf}
 use Rattle.model.specs.Term.{Terms, Term, noTerms, one, words, count, join}
 use Rattle.terms.proofs.Rows.{count-join, join-assoc, join-none}
 use Rattle.model.specs.Flat.{later}
-use Rattle.paths.specs.Hangs.{Accepted}
+use Rattle.paths.specs.Hangs.{AcceptedConnections}
 use Rattle.entries.specs.Connections.{connectionIn, oldest}
 use Rattle.flat.specs.Nodes.{AcceptedNodes}
 use Rattle.trees.specs.declared.Spot.{Spot}
 use Rattle.trees.proofs.Bare.{whole-words}
 use Rattle.trail.specs.Legs.{Leg}
 use Rattle.writer.specs.Appends.{startOf, legTerms, termWords}
-use Rattle.writer.specs.Written.{preOf, postOf, Ran, Wrote, Asked}
+use Rattle.writer.specs.Written.{preOf, postOf, Ran, Wrote, WriterAsks}
 use Rattle.writer.proofs.Legs.{Chain, Trip, chain-long, leg-way, rowOf}
 use Rattle.writer.proofs.Part.{Part, Whole, part-asked, part-ran, part-stands}
 use Rattle.writer.proofs.Stands.{Stands, Plain, cut, length-post, length-pre, post-plain, pre-plain, ran-none}
@@ -115,8 +115,8 @@ module _ {ns : List Node} {conns : List ℕ} {bound r : ℕ} {f : Terms} {p q ar
 -- What a path writer starts with: what it was asked, and the path on the trail.
 pub record Begun (ns : List Node) (conns : List ℕ) (bound : ℕ) (s : Spot) (area trail : List ℕ) (used turn top l r : ℕ) : Type 0 where
   pub nodes : AcceptedNodes ns
-  pub accepted : Accepted ns (oldest bound conns)
-  pub asked : Asked trail area s (termWords ns l) (later ns (oldest bound conns) l r) used
+  pub accepted : AcceptedConnections ns (oldest bound conns)
+  pub asked : WriterAsks trail area s (termWords ns l) (later ns (oldest bound conns) l r) used
   pub legs : List Leg
   pub trip : Trip ns conns bound l r legs (later ns (oldest bound conns) l r)
   pub lies : Lies trail turn used legs top
@@ -158,7 +158,7 @@ module _ {ns : List Node} {conns : List ℕ} {bound : ℕ} {s : Spot} {area trai
         part n (pre-plain (b .asked .stood)) (post-plain (b .asked .stood)) at (length-pre (b .asked .stood)) (length-post (b .asked .stood)) refl
 
     pub hopping-asked : {old : List ℕ} → length old ≡ termLimit →
-        Asked old now at (termWords ns (startOf (connectionIn conns age) up .0)) (legTerms ns conns age up) (top - 1)
+        WriterAsks old now at (termWords ns (startOf (connectionIn conns age) up .0)) (legTerms ns conns age up) (top - 1)
     hopping-asked long =
         part-asked this whole long (top - 1) (few n lt (b .asked .few))
 

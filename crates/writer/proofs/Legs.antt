@@ -11,7 +11,7 @@ use Rattle.model.specs.Forest.{cur, root}
 use Rattle.model.specs.Node.{Node, termOf}
 use Rattle.model.specs.Term.{Terms, noTerms, count, join, one, strip}
 use Rattle.model.specs.Flat.{laterStep, later}
-use Rattle.paths.specs.Hangs.{Accepted}
+use Rattle.paths.specs.Hangs.{AcceptedConnections}
 use Rattle.paths.proofs.Accept.{accepted-loose}
 use Rattle.entries.specs.Connections.{connectionIn, oldest}
 use Rattle.entries.proofs.Connections.{length-oldest}
@@ -94,7 +94,7 @@ newest {ws} {bound} c cs a = go (a .k) (a .few) (a .is)
     go zero h e = let z : _≡_ {A = ℕ} 0 1 = cc in absurd (omega arith)
     go (suc k) h e = record { age = k; below = omega arith; conn = cc; older = cc }
 
-module _ (ns : List Node) (conns : List ℕ) (bound : ℕ) (nodes : AcceptedNodes ns) (accepted : Accepted ns (oldest bound conns)) where
+module _ (ns : List Node) (conns : List ℕ) (bound : ℕ) (nodes : AcceptedNodes ns) (accepted : AcceptedConnections ns (oldest bound conns)) where
   -- what a connection appends leads from the one end to the other, in as many terms as it costs
   pub leg-way : (a : ℕ) (u : Bool) → a < bound →
       Way ns (from conns (record { age = a; up = u })) (to conns (record { age = a; up = u })) (legTerms ns conns a u) (costAt ns conns a)

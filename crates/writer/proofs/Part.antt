@@ -13,7 +13,7 @@ use Rattle.trees.specs.declared.Spot.{Spot}
 use Rattle.trees.proofs.Area.{length-splice}
 use Rattle.trees.proofs.Around.{around-join}
 use Rattle.writer.specs.Appends.{termWords}
-use Rattle.writer.specs.Written.{preOf, postOf, Ran, Wrote, Asked}
+use Rattle.writer.specs.Written.{preOf, postOf, Ran, Wrote, WriterAsks}
 use Rattle.writer.proofs.Stands.{Stands, Plain, pre-is, post-is, stood, stands-next, ran-more}
 
 -- a run of terms f between p and q, behind `from`, fits into the area
@@ -63,7 +63,7 @@ module _ {p q area : List ℕ} {from : ℕ} {f : Terms} {now : List ℕ} {s : Sp
   both : around (preOf now s (length w)) (postOf now s) h ≡ around p q g
   both = ap₂ (λ (x y : List ℕ). around x y h) pre post ∙ k .same
 
-  pub part-asked : {trail : List ℕ} → length trail ≡ termLimit → (used : ℕ) → used + count h ≤ distanceLimit → Asked trail now s w h used
+  pub part-asked : {trail : List ℕ} → length trail ≡ termLimit → (used : ℕ) → used + count h ≤ distanceLimit → WriterAsks trail now s w h used
   part-asked long used c =
       let e = k .ran .end-is in
       let t = total in

@@ -7,7 +7,7 @@ use Rattle.model.specs.Limits.{distanceLimit, termLimit, wordLimit}
 use Rattle.model.specs.Tables.{connectionWords}
 use Rattle.model.specs.Term.{Terms, count}
 use Rattle.model.specs.Forest.{root}
-use Rattle.entries.specs.Connections.{Twins, oldest}
+use Rattle.entries.specs.Connections.{TwinsIn, oldest}
 use Rattle.costs.specs.Costs.{nodesIn}
 use Rattle.trees.specs.Area.{splice, part, bare, around, WholeNodes}
 use Rattle.trees.specs.declared.Spot.{Spot}
@@ -36,7 +36,7 @@ abbrev pub Wrote : List ℕ → Spot → List ℕ → Terms → List ℕ → ℕ
 Wrote area s w f after r = Ran (preOf area s (length w)) (postOf area s) area (s .end) f after r
 
 -- and ask for one thing: the words w stand at the spot, the row fits into the area, and its terms into the limit, with those that lie on the trail
-pub record Asked (trail area : List ℕ) (s : Spot) (w : List ℕ) (f : Terms) (used : ℕ) : Type 0 where
+pub record WriterAsks (trail area : List ℕ) (s : Spot) (w : List ℕ) (f : Terms) (used : ℕ) : Type 0 where
   pub long : length trail ≡ termLimit
   pub stood : Stood area s w
   pub small : length area ≤ wordLimit
@@ -60,4 +60,4 @@ pub record Matched (nodes conns : List ℕ) (age a b : ℕ) : Type 0 where
   pub few : age ≤ length conns / connectionWords
   pub left-in : a < nodesIn nodes
   pub right-in : b < nodesIn nodes
-  pub twins : Twins nodes conns age a b
+  pub twins : TwinsIn nodes conns age a b

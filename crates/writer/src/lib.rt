@@ -29,11 +29,11 @@ ghost use Rattle.model.specs.Forest.{dist};
 ghost use Rattle.model.specs.Flat.{later, flatProof};
 ghost use Rattle.entries.specs.Connections.{connectionIn, oldest};
 ghost use Rattle.entries.specs.Nodes.{nodesOf};
-ghost use Rattle.forest.specs.Rows.{listed};
+ghost use Rattle.forest.specs.Rows.{connectionsOf};
 ghost use Rattle.costs.specs.Costs.{Between};
 ghost use Rattle.writer.specs.Appends.{startOf, legTerms, twinTerms, termWords};
 ghost use Rattle.needs.specs.Needs.{Counts};
-ghost use Rattle.writer.specs.Written.{Wrote, Asked, Kept, Reached, Matched};
+ghost use Rattle.writer.specs.Written.{Wrote, WriterAsks, Kept, Reached, Matched};
 
 // The node that a connection starts from, walked up or down.
 fn start_of(c: Connection, up: bool) -> NodeNo
@@ -56,7 +56,7 @@ fn write_hop(
     up: bool,
 ) -> usize
     requires { ⌜ Counts (now nodes) (now conns) (now rows) (now sizes) × (age < length (now conns) / connectionWords) ⌝ }
-    requires { ⌜ Asked (now trail) (now area) at (termWords (nodesOf (now nodes)) (startOf (connectionIn (now conns) age) up .0)) (legTerms (nodesOf (now nodes)) (now conns) age up) used ⌝ }
+    requires { ⌜ WriterAsks (now trail) (now area) at (termWords (nodesOf (now nodes)) (startOf (connectionIn (now conns) age) up .0)) (legTerms (nodesOf (now nodes)) (now conns) age up) used ⌝ }
     ensures { λ r. ⌜ Wrote (now (area .entry)) at (termWords (nodesOf (now (nodes .entry))) (startOf (connectionIn (now (conns .entry)) age) up .0)) (legTerms (nodesOf (now (nodes .entry))) (now (conns .entry)) age up) (now (area .exit)) r ⌝ }
     ensures { λ _. ⌜ Kept used (now (trail .entry)) (now (trail .exit)) ⌝ }
 {
@@ -90,7 +90,7 @@ fn write_congruence(
     b: NodeNo,
 ) -> usize
     requires { ⌜ Counts (now nodes) (now conns) (now rows) (now sizes) × Matched (now nodes) (now conns) age (a .0) (b .0) ⌝ }
-    requires { ⌜ Asked (now trail) (now area) spot (termWords (nodesOf (now nodes)) (a .0)) (twinTerms (nodesOf (now nodes)) (now conns) age (a .0) (b .0)) used ⌝ }
+    requires { ⌜ WriterAsks (now trail) (now area) spot (termWords (nodesOf (now nodes)) (a .0)) (twinTerms (nodesOf (now nodes)) (now conns) age (a .0) (b .0)) used ⌝ }
     ensures { λ r. ⌜ Wrote (now (area .entry)) spot (termWords (nodesOf (now (nodes .entry))) (a .0)) (twinTerms (nodesOf (now (nodes .entry))) (now (conns .entry)) age (a .0) (b .0)) (now (area .exit)) r ⌝ }
     ensures { λ _. ⌜ Kept used (now (trail .entry)) (now (trail .exit)) ⌝ }
 {
@@ -131,7 +131,7 @@ fn write_path(
     right: NodeNo,
 ) -> usize
     requires { ⌜ Counts (now nodes) (now conns) (now rows) (now sizes) × Reached (now nodes) (now conns) bound (left .0) (right .0) ⌝ }
-    requires { ⌜ Asked (now trail) (now area) spot (termWords (nodesOf (now nodes)) (left .0)) (later (nodesOf (now nodes)) (oldest bound (now conns)) (left .0) (right .0)) used ⌝ }
+    requires { ⌜ WriterAsks (now trail) (now area) spot (termWords (nodesOf (now nodes)) (left .0)) (later (nodesOf (now nodes)) (oldest bound (now conns)) (left .0) (right .0)) used ⌝ }
     ensures { λ r. ⌜ Wrote (now (area .entry)) spot (termWords (nodesOf (now (nodes .entry))) (left .0)) (later (nodesOf (now (nodes .entry))) (oldest bound (now (conns .entry))) (left .0) (right .0)) (now (area .exit)) r ⌝ }
     ensures { λ _. ⌜ Kept used (now (trail .entry)) (now (trail .exit)) ⌝ }
 {
@@ -163,9 +163,9 @@ pub fn write_proof(
     right: NodeNo,
 )
     requires { ⌜ Counts (now nodes) (now conns) (now rows) (now sizes) × Between (now nodes) (now conns) (left .0) (right .0) ⌝ }
-    requires { ⌜ dist (nodesOf (now nodes)) (listed (now conns)) (left .0) (right .0) ≤ distanceLimit ⌝ }
-    requires { ⌜ (length (now area) ≤ wordLimit) × (length (words (flatProof (nodesOf (now nodes)) (listed (now conns)) (left .0) (right .0))) ≡ length (now area)) ⌝ }
-    ensures { λ _. ⌜ now (area .exit) ≡ words (flatProof (nodesOf (now (nodes .entry))) (listed (now (conns .entry))) (left .0) (right .0)) ⌝ }
+    requires { ⌜ dist (nodesOf (now nodes)) (connectionsOf (now conns)) (left .0) (right .0) ≤ distanceLimit ⌝ }
+    requires { ⌜ (length (now area) ≤ wordLimit) × (length (words (flatProof (nodesOf (now nodes)) (connectionsOf (now conns)) (left .0) (right .0))) ≡ length (now area)) ⌝ }
+    ensures { λ _. ⌜ now (area .exit) ≡ words (flatProof (nodesOf (now (nodes .entry))) (connectionsOf (now (conns .entry))) (left .0) (right .0)) ⌝ }
 {
     let mut trail = [0u16; TERM_LIMIT];
     let end = write_tree(nodes, left, area, 0);

@@ -6,7 +6,7 @@ use mathlib.Core.Path.{_∙_}
 use lib.ListN.{length}
 use Rattle.entries.specs.Nodes.{nodesOf}
 use Rattle.model.specs.Tables.{connectionWords}
-use Rattle.forest.specs.Rows.{listed}
+use Rattle.forest.specs.Rows.{connectionsOf}
 use Rattle.costs.specs.Costs.{Charged, Filled, nodesIn}
 use Rattle.costs.proofs.Priced.{charged-priced, filled-priced, weigh-dist}
 use Rattle.costs.proofs.distance.Statement.{statement}
@@ -15,7 +15,7 @@ use Rattle.costs.proofs.distance.Tie as tie
 -- what stands in the rows once they hold the costs
 charged : (c : tie.After-fill-costs) →
     let a = c .before .before .before .before .args in
-    Charged (listed (a .conns .now)) (nodesIn (a .nodes .now)) (c .fill-costs .last .1 .1 .0)
+    Charged (connectionsOf (a .conns .now)) (nodesIn (a .nodes .now)) (c .fill-costs .last .1 .1 .0)
 charged c =
     let s = c .before .before .before .before in
     let r = s .pre .1 .0 .climbs .rooted in
@@ -48,7 +48,7 @@ returns c =
     let f = c .before .before .before in
     let s = f .before .before .before .before in
     let p = s .pre .1 .1 in (
-      c .wide .ensures ∙ c .before .path-cost .ensures (listed (s .args .conns .now)) _ (charged f .climbs) (p .left-in) (p .right-in)
+      c .wide .ensures ∙ c .before .path-cost .ensures (connectionsOf (s .args .conns .now)) _ (charged f .climbs) (p .left-in) (p .right-in)
           ∙ weigh-dist (nodesOf (s .args .nodes .now)) (s .args .conns .now) _ _ _ _ (filled f),
       f .fill-costs .ensures,
     )

@@ -8,7 +8,7 @@ use Rattle.model.specs.declared.Connection.{Connection}
 use Rattle.model.specs.Forest.{cur, nxt, costBy}
 use Rattle.entries.specs.Nodes.{nodesOf}
 use Rattle.model.specs.Tables.{connectionWords}
-use Rattle.forest.specs.Rows.{costWord, listed, rowWords}
+use Rattle.forest.specs.Rows.{costWord, connectionsOf, rowWords}
 use Rattle.costs.specs.Costs.{Charged, Filled, costAt, held, nodesIn, priced, weigh}
 use Rattle.costs.proofs.Payable.{pairs, payable}
 use Rattle.costs.proofs.Priced.{charged-priced, cost-by, filled-priced, priced-more, priced-none}
@@ -24,7 +24,7 @@ abbrev μ-loop : tie.MeasureT-loop
 -- what stands in the rows so far
 charged : (c : tie.At-loop Inv-loop μ-loop) →
     let a = c .before .before .before .args in
-    Charged (listed (a .conns .now)) (nodesIn (a .nodes .now)) (c .loop .rows)
+    Charged (connectionsOf (a .conns .now)) (nodesIn (a .nodes .now)) (c .loop .rows)
 charged c =
     let s = c .before .before .before in
     let r = s .pre .1 .climbs .rooted in
@@ -50,8 +50,8 @@ cost c =
     let l = t .before in
     let s = l .before .before .before in
     let ns = nodesOf (s .args .nodes .now) in
-    let d = weigh (l .loop .rows) (listed (s .args .conns .now)) in
-    c .connection-cost .ensures (listed (s .args .conns .now)) (charged l .climbs)
+    let d = weigh (l .loop .rows) (connectionsOf (s .args .conns .now)) in
+    c .connection-cost .ensures (connectionsOf (s .args .conns .now)) (charged l .climbs)
     ∙ ap (λ (x : Connection). held (costBy ns d (x .why) (cur x) (nxt x))) (c .before .before .connection-at .ensures)
     ∙ cost-by ns (s .args .conns .now) (l .loop .rows) (l .loop .age) (length (s .args .conns .now) / connectionWords) (omega arith) (filled l)
     (pairs (s .pre .0) (l .loop .age) (t .loop-test .taken))

@@ -16,7 +16,7 @@ use Rattle.model.specs.Tables.{nodeWords}
 use Rattle.entries.specs.Nodes.{nodesOf}
 use Rattle.entries.proofs.Nodes.{length-nodes}
 use Rattle.paths.proofs.Joined.{joined-root}
-use Rattle.forest.specs.Rows.{listed}
+use Rattle.forest.specs.Rows.{connectionsOf}
 use Rattle.forest.proofs.Rooted.{rooted}
 use Rattle.costs.specs.Costs.{Charged, Between}
 use Rattle.costs.proofs.Payable.{charged-full}
@@ -50,13 +50,13 @@ inside c = record { left = omega (arith, c .before .before .before .wide .ensure
 -- the rows stand for the connections
 charged : (c : tie.After-fill-rows) →
     let a = at-start (at-nodes c) .args in
-    Charged (listed (a .connections .now)) (length (a .nodes .now) / nodeWords) (c .fill-rows .last .1 .1 .0)
+    Charged (connectionsOf (a .connections .now)) (length (a .nodes .now) / nodeWords) (c .fill-rows .last .1 .1 .0)
 charged c = let s = at-start (at-nodes c) in charged-full _ (rooted (s .pre .0)) (s .pre .1) (c .fill-rows .ensures)
 
 -- whether the pair is joined
 told : (c : tie.After-joined) →
     let a = at-start (at-nodes (c .before .before)) .args in
-    c .joined .result ≡ joined (listed (a .connections .now)) (a .left .0) (a .right .0)
+    c .joined .result ≡ joined (connectionsOf (a .connections .now)) (a .left .0) (a .right .0)
 told c =
     let f = c .before .before in
     let b = inside (at-nodes f) in
@@ -65,7 +65,7 @@ told c =
 -- it is joined
 same : (c : tie.Else3) →
     let a = at-start (at-nodes (at-rows c)) .args in
-    joined (listed (a .connections .now)) (a .left .0) (a .right .0) ≡ true
+    joined (connectionsOf (a .connections .now)) (a .left .0) (a .right .0) ≡ true
 same c = sym (told (c .before)) ∙ not-false _ (c .if3 .left)
 
 between : (c : tie.Else3) →

@@ -9,7 +9,7 @@ use lib.Seq.{length-take-le, take-at}
 use Rattle.model.specs.Limits.{nodeLimit, wordLimit}
 use Rattle.model.specs.Flat.{needed}
 use Rattle.entries.specs.Nodes.{nodesOf}
-use Rattle.forest.specs.Rows.{listed}
+use Rattle.forest.specs.Rows.{connectionsOf}
 use Rattle.needs.specs.Needs.{Counts}
 use Rattle.needs.proofs.Ready.{counts}
 use Rattle.needs.proofs.Words.{held-exact}
@@ -40,7 +40,7 @@ counted c =
 -- the words that are needed, where they are within the limit
 exact : (c : tie.Else1) →
     let a = at-start (at-sizes (c .before)) .args in
-    c .before .words-needed .result ≡ needed (nodesOf (a .nodes .now)) (listed (a .connections .now)) (a .left .0) (a .right .0)
+    c .before .words-needed .result ≡ needed (nodesOf (a .nodes .now)) (connectionsOf (a .connections .now)) (a .left .0) (a .right .0)
 exact c =
     let e = c .before .words-needed .ensures in
     e ∙ held-exact _ _ _ _ (subst (λ (x : ℕ). x ≤ wordLimit) e (c .if1 .left))

@@ -10,7 +10,7 @@ use Rattle.model.specs.Tables.{connectionWords}
 use Rattle.model.specs.declared.Connection.{Connection}
 use Rattle.entries.specs.Connections.{connectionIn, oldest}
 use Rattle.entries.proofs.Connections.{length-oldest}
-use Rattle.forest.specs.Rows.{ageWord, listed, nextWord, rowWords}
+use Rattle.forest.specs.Rows.{ageWord, connectionsOf, nextWord, rowWords}
 use Rattle.forest.specs.Filling.{Sounded, Tied, DepthsUnknown}
 use Rattle.forest.proofs.Climbing.{resounded, within-at}
 use Rattle.forest.proofs.Filled.{rows-are, tied-next, unknown-more}
@@ -84,7 +84,7 @@ loop-again c =
 -- all connections stand in the rows, and no depth
 unsounded : (c : tie.After-loop Inv-loop μ-loop) →
     let s = c .before .before .before .before .before in
-    Sounded (listed (s .args .conns .now)) (s .args .n) (s .args .rows .now) (c .before .loop .rows)
+    Sounded (connectionsOf (s .args .conns .now)) (s .args .n) (s .args .rows .now) (c .before .loop .rows)
 unsounded c =
     let s = c .before .before .before .before .before in
     let l = c .before in
@@ -102,7 +102,7 @@ returns : tie.Need-returns Inv-loop μ-loop
 returns c =
     let b = c .before .before in
     let s = b .before .before .before .before .before in
-    let w = c .settle-all .ensures (listed (s .args .conns .now)) (s .args .rows .now) (unsounded b) in
+    let w = c .settle-all .ensures (connectionsOf (s .args .conns .now)) (s .args .rows .now) (unsounded b) in
     rows-are (w .0 .tied) (s .pre .0 .few) (s .pre .1) (λ a h. w .0 .right a h (w .1 a h))
 
 pub fill-rows-spec : {M : Type 1} → statement M

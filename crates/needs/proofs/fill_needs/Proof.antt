@@ -11,7 +11,7 @@ use Rattle.model.specs.Forest.{cur}
 use Rattle.model.specs.Tables.{connectionWords}
 use Rattle.entries.specs.Nodes.{nodesOf}
 use Rattle.entries.proofs.Connections.{length-oldest}
-use Rattle.forest.specs.Rows.{costIn, listed}
+use Rattle.forest.specs.Rows.{costIn, connectionsOf}
 use Rattle.costs.specs.Costs.{costAt, weigh}
 use Rattle.trees.specs.Sizes.{heldNodes}
 use Rattle.needs.specs.Needs.{Appends, Led, Needs, appendedBy, needAt, pathNodes}
@@ -58,7 +58,7 @@ abbrev Said : tie.After-connection-at Inv-loop μ-loop → Bool → ℕ → ℕ 
 Said c up r cost x =
     let l = round c .before in
     let a = start l .args in
-    let cs = listed (a .conns .now) in
+    let cs = connectionsOf (a .conns .now) in
     Appends cost
     (appendedBy (λ k. getD (a .sizes .now) k 0) (weigh (a .rows .now) cs) (pathNodes (l .loop .ups) (l .loop .downs) cs) (a .nodes .now) (x .why) (from up x)
     (to up x)) r
@@ -85,7 +85,7 @@ said-up : (c : tie.After-connection-need Inv-loop μ-loop) →
     Said x true (c .connection-need .result) (w .wide .result) (x .connection-at .result)
 said-up c =
     let s = start (round (c .before .before .before .before .before .before .before) .before) in
-    c .connection-need .ensures (listed (s .args .conns .now)) (s .pre .0 .charged .climbs)
+    c .connection-need .ensures (connectionsOf (s .args .conns .now)) (s .pre .0 .charged .climbs)
 
 said-down : (c : tie.After-connection-need2 Inv-loop μ-loop) →
     let w = c .before .before .before .before .before .before in
@@ -93,7 +93,7 @@ said-down : (c : tie.After-connection-need2 Inv-loop μ-loop) →
     Said x false (c .connection-need2 .result) (w .wide .result) (x .connection-at .result)
 said-down c =
     let s = start (round (asked c) .before) in
-    c .connection-need2 .ensures (listed (s .args .conns .now)) (s .pre .0 .charged .climbs)
+    c .connection-need2 .ensures (connectionsOf (s .args .conns .now)) (s .pre .0 .charged .climbs)
 
 loop-holds : tie.Need-loop-holds Inv-loop μ-loop
 loop-holds c = let p = c .before .before .pre in (omega arith, p .1, p .2, needs-none _ _ _ _)

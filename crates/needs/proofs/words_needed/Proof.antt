@@ -7,7 +7,7 @@ use lib.ListN.{length}
 use Rattle.model.specs.Tables.{connectionWords}
 use Rattle.model.specs.Flat.{laterSize, sizeOf}
 use Rattle.entries.specs.Nodes.{nodesOf}
-use Rattle.forest.specs.Rows.{listed}
+use Rattle.forest.specs.Rows.{connectionsOf}
 use Rattle.costs.proofs.Priced.{weigh-dist}
 use Rattle.trees.specs.Sizes.{heldNodes}
 use Rattle.needs.proofs.Exact.{path-exact}
@@ -21,7 +21,7 @@ start c = c .before .before .before .before .before .before .before .before
 -- what the path appends
 later : (c : tie.After-path-need) →
     let a = start c .args in
-    c .path-need .result .nodes ≡ heldNodes (laterSize (nodesOf (a .nodes .now)) (listed (a .conns .now)) (a .left .0) (a .right .0))
+    c .path-need .result .nodes ≡ heldNodes (laterSize (nodesOf (a .nodes .now)) (connectionsOf (a .conns .now)) (a .left .0) (a .right .0))
 later c =
     let s = start c in
     let a = s .args in
@@ -29,7 +29,7 @@ later c =
     let b = s .pre .1 .0 in
     let ns = nodesOf (a .nodes .now) in
     let count = length (a .conns .now) / connectionWords in
-    c .path-need .ensures (listed (a .conns .now)) _ (w .charged .climbs) (b .left-in) (b .right-in) .nodes
+    c .path-need .ensures (connectionsOf (a .conns .now)) _ (w .charged .climbs) (b .left-in) (b .right-in) .nodes
     ∙ path-exact ns (a .conns .now) (a .rows .now) _ _ count (a .left .0) (a .right .0) (w .filled) (c .before .before .before .fill-needs .ensures)
     (omega (arith, s .pre .1 .1, weigh-dist ns (a .conns .now) (a .rows .now) count (a .left .0) (a .right .0) (w .filled)))
 

@@ -8,7 +8,7 @@ use Rattle.model.specs.Limits.{termLimit}
 use Rattle.model.specs.Term.{words}
 use Rattle.model.specs.Flat.{later}
 use Rattle.entries.specs.Nodes.{nodesOf}
-use Rattle.forest.specs.Rows.{listed}
+use Rattle.forest.specs.Rows.{connectionsOf}
 use Rattle.writer.specs.Appends.{termWords}
 use Rattle.writer.proofs.FirstTerm.{all-written, counted, first-asked, first-long, proof-words, reached}
 use Rattle.writer.proofs.write_proof.Statement.{statement}
@@ -18,7 +18,7 @@ use Rattle.writer.proofs.write_proof.Tie as tie
 room : (c : tie.Start) →
     let a = c .args in
     let ns = nodesOf (a .nodes .now) in
-    length (termWords ns (a .left .0)) + length (words (later ns (listed (a .conns .now)) (a .left .0) (a .right .0))) ≡ length (a .area .now)
+    length (termWords ns (a .left .0)) + length (words (later ns (connectionsOf (a .conns .now)) (a .left .0) (a .right .0))) ≡ length (a .area .now)
 room c =
     let a = c .args in
     let ns = nodesOf (a .nodes .now) in
@@ -26,7 +26,7 @@ room c =
       arith,
       c .pre .1 .1 .1,
       ap length (proof-words (a .nodes .now) (a .conns .now) (a .left .0) (a .right .0)),
-      length-append (termWords ns (a .left .0)) (words (later ns (listed (a .conns .now)) (a .left .0) (a .right .0))),
+      length-append (termWords ns (a .left .0)) (words (later ns (connectionsOf (a .conns .now)) (a .left .0) (a .right .0))),
     )
 
 write-tree-requires : tie.Need-write-tree-requires
@@ -50,7 +50,7 @@ write-path-requires c κs =
     let a = s .args in
     let k = s .pre .0 in (
       (k .0, reached (k .0) (k .1)),
-      first-asked (nodesOf (a .nodes .now)) (a .left .0) (later (nodesOf (a .nodes .now)) (listed (a .conns .now)) (a .left .0) (a .right .0)) (a .area .now)
+      first-asked (nodesOf (a .nodes .now)) (a .left .0) (later (nodesOf (a .nodes .now)) (connectionsOf (a .conns .now)) (a .left .0) (a .right .0)) (a .area .now)
           (room s) (t .write-tree .ensures .1) (end-is t) (length-replicate {A = ℕ} termLimit 0) (s .pre .1 .1 .0) (omega (arith, counted (k .0) (k .1), s .pre .1 .0)),
     )
 
@@ -63,7 +63,7 @@ returns c =
     let t = p .before .before .before .before .before in
     let s = t .before .before .before .before .before in
     let a = s .args in
-    all-written (nodesOf (a .nodes .now)) (a .left .0) (later (nodesOf (a .nodes .now)) (listed (a .conns .now)) (a .left .0) (a .right .0)) (a .area .now)
+    all-written (nodesOf (a .nodes .now)) (a .left .0) (later (nodesOf (a .nodes .now)) (connectionsOf (a .conns .now)) (a .left .0) (a .right .0)) (a .area .now)
     (room s) (t .write-tree .ensures .1) (end-is t) (p .write-path .ensures .0)
     ∙ sym (proof-words (a .nodes .now) (a .conns .now) (a .left .0) (a .right .0))
 

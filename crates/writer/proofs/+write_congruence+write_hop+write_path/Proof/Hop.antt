@@ -17,7 +17,7 @@ use Rattle.entries.specs.Nodes.{nodesOf}
 use Rattle.costs.specs.Costs.{nodesIn}
 use Rattle.trees.specs.Area.{around, directionOf, splice}
 use Rattle.writer.specs.Appends.{startOf, legTerms, termWords, twinTerms}
-use Rattle.writer.specs.Written.{postOf, preOf, Asked, Matched, Wrote}
+use Rattle.writer.specs.Written.{postOf, preOf, WriterAsks, Matched, Wrote}
 use Rattle.writer.proofs.Connected.{leg-rule, leg-twin, mark-word, marked-room, marked-wrote, matched, same-direction, start-in}
 use Rattle.writer.proofs.Kept.{kept-all}
 use Rattle.writer.proofs.Rewriting.{exact}
@@ -80,12 +80,12 @@ module _ (t : ℕ) where
   asked : (c : Ends) →
       let a = start c .args in
       let ns = nodesOf (a .nodes .now) in
-      Asked (a .trail .now) (a .area .now) (a .at) (termWords ns (c .before .start-of .result .0)) (legTerms ns (a .conns .now) (a .age) (a .up)) (a .used)
+      WriterAsks (a .trail .now) (a .area .now) (a .at) (termWords ns (c .before .start-of .result .0)) (legTerms ns (a .conns .now) (a .age) (a .up)) (a .used)
   asked c =
       let s = start c in
       let a = s .args in
       let ns = nodesOf (a .nodes .now) in
-      subst (λ (x : NodeNo). Asked (a .trail .now) (a .area .now) (a .at) (termWords ns (x .0)) (legTerms ns (a .conns .now) (a .age) (a .up)) (a .used))
+      subst (λ (x : NodeNo). WriterAsks (a .trail .now) (a .area .now) (a .at) (termWords ns (x .0)) (legTerms ns (a .conns .now) (a .age) (a .up)) (a .used))
       (sym (from-is c)) (s .pre .1 .1)
 
   words-of-requires : lts.Need-words-of-requires (hop-claims t) (write-hop-at t) write-hop.Post
@@ -180,7 +180,7 @@ module _ (t : ℕ) where
             s .pre .1 .0 .0,
             subst₂ (λ (x y : NodeNo). Matched (a .nodes .now) (a .conns .now) (a .age) (x .0) (y .0)) (sym (from-is e)) (sym (to-is e)) twin,
           ),
-          subst (λ (f : Terms). Asked (a .trail .now) (a .area .now) (a .at) (termWords (nodesOf (a .nodes .now)) (e .before .start-of .result .0)) f (a .used))
+          subst (λ (f : Terms). WriterAsks (a .trail .now) (a .area .now) (a .at) (termWords (nodesOf (a .nodes .now)) (e .before .start-of .result .0)) f (a .used))
               (twin-terms k) (asked e),
         ),
       )

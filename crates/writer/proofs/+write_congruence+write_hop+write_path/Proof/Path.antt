@@ -10,7 +10,7 @@ use Rattle.model.specs.Flat.{later}
 use Rattle.paths.specs.Meet.{topOf}
 use Rattle.entries.specs.Connections.{oldest}
 use Rattle.entries.specs.Nodes.{nodesOf}
-use Rattle.forest.specs.Rows.{listed}
+use Rattle.forest.specs.Rows.{connectionsOf}
 use Rattle.trail.specs.Legs.{ages}
 use Rattle.writer.specs.Appends.{termWords}
 use Rattle.trail.specs.Laid.{LaidOut}
@@ -52,12 +52,12 @@ module _ (t : ℕ) where
   -- the path lies on the trail
   laid : (c : Laid) →
       let a = start c .args in
-      LaidOut (a .rows .now) (listed (a .conns .now)) (a .trail .now) (a .used) (a .left .0) (a .right .0) (c .lay-path .last .1 .0)
+      LaidOut (a .rows .now) (connectionsOf (a .conns .now)) (a .trail .now) (a .used) (a .left .0) (a .right .0) (c .lay-path .last .1 .0)
       (c .lay-path .result .turn) (c .lay-path .result .top)
   laid c =
       let s = start c in
       let k = s .pre .1 in
-      c .lay-path .ensures (listed (s .args .conns .now)) _ (k .0 .0 .charged .climbs) (k .0 .1 .left-in) (k .0 .1 .right-in)
+      c .lay-path .ensures (connectionsOf (s .args .conns .now)) _ (k .0 .0 .charged .climbs) (k .0 .1 .left-in) (k .0 .1 .right-in)
 
   kept : (c : Laid) →
       let a = start c .args in
@@ -66,7 +66,7 @@ module _ (t : ℕ) where
       let s = start c in
       let a = s .args in
       let k = s .pre .1 in
-      let cs = listed (a .conns .now) in
+      let cs = connectionsOf (a .conns .now) in
       let ds = ages (a .rows .now) cs (a .right .0) (topOf cs (a .left .0) (a .right .0)) in
       let us = ages (a .rows .now) cs (a .left .0) (topOf cs (a .left .0) (a .right .0)) in
       kept-splice (a .trail .now) (ds ++ reverse us) (laid c .trail-is)
