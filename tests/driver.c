@@ -26,13 +26,28 @@ static int full(void *place, size_t length)
     return 1;
 }
 
+/* Each run stands between guards, so that a word written outside of it is seen; and so an empty run has a place too, and no pointer is null. */
+enum { GUARDS = 16, GUARD = 0x5a5a };
+
 static uint16_t *run(uint32_t length)
 {
-    /* an empty run still has a place, so that no pointer is null */
-    uint16_t *words = malloc(length * sizeof(uint16_t) + 2);
-    if (words == 0 || !full(words, length * sizeof(uint16_t)))
+    uint16_t *all = malloc(((size_t)length + 2 * GUARDS) * sizeof(uint16_t));
+    if (all == 0)
         exit(2);
-    return words;
+    for (size_t k = 0; k < GUARDS; k++)
+        all[k] = all[GUARDS + length + k] = GUARD;
+    if (!full(all + GUARDS, length * sizeof(uint16_t)))
+        exit(2);
+    return all + GUARDS;
+}
+
+static void done(uint16_t *words, uint32_t length)
+{
+    uint16_t *all = words - GUARDS;
+    for (size_t k = 0; k < GUARDS; k++)
+        if (all[k] != GUARD || all[GUARDS + length + k] != GUARD)
+            exit(4);
+    free(all);
 }
 
 /* The stack below this function's caller, filled with a pattern by `paint`, and after a call looked at again: what was overwritten was used. */
@@ -105,7 +120,7 @@ int main(void)
         /* no call changes the tables */
         if (tables != (sum_of(nodes, head[1]) ^ sum_of(rules, head[2]) * 3 ^ sum_of(connections, head[3]) * 5))
             exit(3);
-        free(nodes), free(rules), free(connections), free(words);
+        done(nodes, head[1]), done(rules, head[2]), done(connections, head[3]), done(words, head[4]);
     }
     return 0;
 }

@@ -22,11 +22,12 @@ def tower(levels, joined=True):
     return nodes, links, 2 * levels, 2 * levels + 1
 
 
-def chain(leaves, children):
-    """leaves joined one after the other, under two nodes whose children are all the first and all the last"""
+def chain(leaves, children, back=7):
+    """leaves joined one after the other, under two nodes whose children are all the first and all the last; `back` is the rule from an
+    odd leaf to the next"""
     nodes = [(10 + i % 2, []) for i in range(leaves)]
     nodes += [(3, [0] * children), (3, [leaves - 1] * children)]
-    links = [by_rule(i, i + 1) for i in range(leaves - 1)] + [congruent(leaves, leaves + 1)]
+    links = [by_rule(i, i + 1, back if i % 2 else 7) for i in range(leaves - 1)] + [congruent(leaves, leaves + 1)]
     return nodes, links, leaves, leaves + 1
 
 
@@ -83,6 +84,31 @@ def leaning(pairs, shared):
         x = len(nodes) - 1
         links.append(congruent(x, z))
     return nodes, links, x, z
+
+
+def full(levels):
+    """one leaf, and g(x, x) so many times over it: the last node's term has 2 ** (levels + 1) - 1 nodes"""
+    return [(1, [])] + [(3, [k, k]) for k in range(levels)]
+
+
+def changed_leaf(levels):
+    """A full tree, and the same with another last leaf: two terms, and at each level one half is held."""
+    nodes, leaf = full(levels), levels + 1
+    nodes += [(2, [])] + [(3, [k, leaf + k]) for k in range(levels)]
+    return nodes, [by_rule(0, leaf)] + [congruent(k, leaf + k) for k in range(1, levels + 1)], levels, leaf + levels
+
+
+def changed_root(levels, leaves):
+    """A full tree, and by a rule another root over the same two halves and so many leaves."""
+    nodes = full(levels)
+    return nodes + [(4, [levels - 1] * 2 + [0] * leaves)], [by_rule(levels, levels + 1)], levels, levels + 1
+
+
+def among_large(levels):
+    """two nodes of eight children: a rule joins one pair of leaves among seven full trees that are held"""
+    nodes, t = full(levels), levels
+    nodes += [(2, []), (5, [t] * 3 + [0] + [t] * 4), (5, [t] * 3 + [t + 1] + [t] * 4)]
+    return nodes, [by_rule(0, t + 1), congruent(t + 2, t + 3)], t + 2, t + 3
 
 
 def random_table(rng):
