@@ -115,7 +115,67 @@ cases t area l r =
             ⊎-elim (λ d. linked k j d) (λ far. by-10 k j far) (order (distanceOf t l r) distanceLimit)
         by false e = by-9 k (λ j. false≢true (sym e ∙ joins t l r j))
 
--- THE REFUSALS, EACH EXACTLY WHERE ITS CONDITION IS THE FIRST TO HOLD
+-- 8, 9, 10 OF A DISTANCE, EACH EXACTLY WHERE ITS CONDITION IS THE FIRST TO HOLD
+module _ (t : Tables) (l r : ℕ) where
+  measured-8 : Missing t l r → measure t l r ≡ Unmeasured 8
+  measured-8 (inl h) = sym (no-left t l r h)
+  measured-8 (inr h) = ⊎-elim (λ out. sym (no-left t l r out)) (λ within. sym (no-right t l r within h)) (order (length (t .nodes)) l)
+
+  measured-9 : Known t l r → Unlinked t l r → measure t l r ≡ Unmeasured 9
+  measured-9 k a = sym (apart t l r (k .left) (k .right) (parts t l r a))
+
+  measured-10 : Known t l r → Linked (t .conns) l r → distanceLimit < distanceOf t l r → measure t l r ≡ Unmeasured 10
+  measured-10 k j h = sym (long t l r (k .left) (k .right) (joins t l r j) h)
+
+  measured : Known t l r → Linked (t .conns) l r → distanceOf t l r ≤ distanceLimit → measure t l r ≡ Distance (distanceOf t l r)
+  measured k j h = sym (near t l r (k .left) (k .right) (joins t l r j) h)
+
+  -- the number that a case gives
+  abbrev unmeasured : Case t 0 l r → ℕ
+  unmeasured (by-8 u) = 8
+  unmeasured (by-9 k a) = 9
+  unmeasured (by-10 k j d) = 10
+  unmeasured (by-11 k j d o) = 0
+  unmeasured (fit a) = 0
+
+  tells : (n : ℕ) → measure t l r ≡ Unmeasured n → (c : Case t 0 l r) → unmeasured c ≡ n
+  tells n e (by-8 u) = let z = measured-8 u in cc
+  tells n e (by-9 k a) = let z = measured-9 k a in cc
+  tells n e (by-10 k j d) = let z = measured-10 k j d in cc
+  tells n e (by-11 k j d o) = let z = measured k j d in cc
+  tells n e (fit a) = let z = measured (a .known) (a .linked) (a .near) in cc
+
+  pub unmeasured-8 : (measure t l r ≡ Unmeasured 8) ↔ Missing t l r
+  unmeasured-8 = (λ e. pick (cases t 0 l r) (tells 8 e (cases t 0 l r)), measured-8)
+    where
+      pick : (c : Case t 0 l r) → unmeasured c ≡ 8 → Missing t l r
+      pick (by-8 u) e = u
+      pick (by-9 k a) e = absurd (omega arith)
+      pick (by-10 k j d) e = absurd (omega arith)
+      pick (by-11 k j d o) e = absurd (omega arith)
+      pick (fit a) e = absurd (omega arith)
+
+  pub unmeasured-9 : (measure t l r ≡ Unmeasured 9) ↔ (Known t l r × Unlinked t l r)
+  unmeasured-9 = (λ e. pick (cases t 0 l r) (tells 9 e (cases t 0 l r)), λ h. measured-9 (h .0) (h .1))
+    where
+      pick : (c : Case t 0 l r) → unmeasured c ≡ 9 → Known t l r × Unlinked t l r
+      pick (by-8 u) e = absurd (omega arith)
+      pick (by-9 k a) e = (k, a)
+      pick (by-10 k j d) e = absurd (omega arith)
+      pick (by-11 k j d o) e = absurd (omega arith)
+      pick (fit a) e = absurd (omega arith)
+
+  pub unmeasured-10 : (measure t l r ≡ Unmeasured 10) ↔ (Known t l r × Linked (t .conns) l r × (distanceLimit < distanceOf t l r))
+  unmeasured-10 = (λ e. pick (cases t 0 l r) (tells 10 e (cases t 0 l r)), λ h. measured-10 (h .0) (h .1) (h .2))
+    where
+      pick : (c : Case t 0 l r) → unmeasured c ≡ 10 → Known t l r × Linked (t .conns) l r × (distanceLimit < distanceOf t l r)
+      pick (by-8 u) e = absurd (omega arith)
+      pick (by-9 k a) e = absurd (omega arith)
+      pick (by-10 k j d) e = (k, j, d)
+      pick (by-11 k j d o) e = absurd (omega arith)
+      pick (fit a) e = absurd (omega arith)
+
+-- THE REFUSALS OF A QUERY, EACH EXACTLY WHERE ITS CONDITION IS THE FIRST TO HOLD
 module _ (t : Tables) (ok : AcceptedTables t) (area l r : ℕ) where
   -- the number that a case gives
   abbrev number : Case t area l r → ℕ

@@ -14,7 +14,6 @@ use lib.Seq.{take-at}
 use Rattle.model.specs.declared.Answer.{Answer}
 use Rattle.model.specs.declared.Answer.the-variants.{Written}
 use Rattle.model.specs.declared.Measured.{Measured}
-use Rattle.model.specs.declared.Measured.the-variants.{Unmeasured}
 use Rattle.model.specs.declared.Verdict.{Verdict}
 use Rattle.model.specs.declared.Verdict.the-variants.{Accepted, Rejected}
 use Rattle.model.specs.Judged.{Judged, good, bad}
@@ -22,7 +21,8 @@ use Rattle.model.specs.Premise.{Premise}
 use Rattle.model.specs.Query.{Tables, distanceOf, proofWords}
 use Rattle.model.specs.Verdict.{Proves}
 use Rattle.model.specs.Tables.{judgeTables, measureBy, answerBy, areaOf, verdictBy}
-use Rattle.explanation.specs.Demand.{FirstToHold, Asked, Granted}
+use Rattle.explanation.specs.Demand.{FirstToHold, FirstMeasured, Asked, Granted}
+use Rattle.explanation.proofs.Answers.{unmeasured-8, unmeasured-9, unmeasured-10}
 use Rattle.explanation.proofs.DemandThree.{answered, area-kept, bad-tables, demand-3 as grants, refused-10, refused-11, refused-8, refused-9, refused-zero}
 use Rattle.explanation.proofs.DemandTwo.{demand-2 as strict}
 use Rattle.explanation.proofs.distance.Reads as distance
@@ -61,14 +61,26 @@ pub demand-1 : (κs : Lfts 4) (a s : _) (r : Answer) → query.Post κs a r s �
     r (now (s .1 .1 .1 .1 .1 .0))
 demand-1 κs a s r p = first-to-hold (now (a .0)) (now (a .1 .0)) (now (a .1 .1 .0)) _ _ _ r _ (p .0) (p .1)
 
--- bad tables come before all else in the other entry points too
+-- bad tables come before all else in `check` too
 pub bad-first : (κs : Lfts 4) (a s : _) (v : Verdict) → check.Post κs a v s → (n : ℕ) →
     judgeTables (now (a .0)) (now (a .1 .0)) (now (a .1 .1 .0)) ≡ bad n → v ≡ Rejected n 0
 bad-first κs a s v p n e = p ∙ bad-tables (now (a .0)) (now (a .1 .0)) (now (a .1 .1 .0)) n e 0 0 0 (now (a .1 .1 .1 .0)) .1
 
-pub bad-unmeasured : (κs : Lfts 3) (a s : _) (m : Measured) → distance.Post κs a m s → (n : ℕ) →
-    judgeTables (now (a .0)) (now (a .1 .0)) (now (a .1 .1 .0)) ≡ bad n → m ≡ Unmeasured n
-bad-unmeasured κs a s m p n e = p ∙ ap (λ (j : Judged Tables). measureBy j (a .1 .1 .1 .0 .0) (a .1 .1 .1 .1 .0 .0)) e
+-- DEMAND 1 of `distance`
+first-measured : (nws rws cws : List ℕ) (l r : ℕ) → FirstMeasured (judgeTables nws rws cws) l r (measureBy (judgeTables nws rws cws) l r)
+first-measured nws rws cws l r =
+    record {
+      tables = λ n e. rw e refl;
+      is-8 = λ t e. rw e (unmeasured-8 t l r);
+      is-9 = λ t e. rw e (unmeasured-9 t l r);
+      is-10 = λ t e. rw e (unmeasured-10 t l r);
+    }
+
+pub demand-1-distance : (κs : Lfts 3) (a s : _) (m : Measured) → distance.Post κs a m s →
+    FirstMeasured (judgeTables (now (a .0)) (now (a .1 .0)) (now (a .1 .1 .0))) (a .1 .1 .1 .0 .0) (a .1 .1 .1 .1 .0 .0) m
+demand-1-distance κs a s m p =
+    subst (FirstMeasured (judgeTables (now (a .0)) (now (a .1 .0)) (now (a .1 .1 .0))) (a .1 .1 .1 .0 .0) (a .1 .1 .1 .1 .0 .0)) (sym p)
+    (first-measured (now (a .0)) (now (a .1 .0)) (now (a .1 .1 .0)) (a .1 .1 .1 .0 .0) (a .1 .1 .1 .1 .0 .0))
 
 -- DEMAND 2 of `check`: n terms are accepted exactly where the words are a strict proof of n terms within the limits
 pub demand-2 : (κs : Lfts 4) (a s : _) (v : Verdict) → check.Post κs a v s → (t : Tables) →

@@ -8,6 +8,8 @@ use mathlib.Core.Path.{_≡_}
 use lib.ListN.{length, replicate}
 use Rattle.model.specs.declared.Answer.{Answer}
 use Rattle.model.specs.declared.Answer.the-variants.{Written, Refused}
+use Rattle.model.specs.declared.Measured.{Measured}
+use Rattle.model.specs.declared.Measured.the-variants.{Unmeasured}
 use Rattle.model.specs.declared.Verdict.the-variants.{Accepted}
 use Rattle.model.specs.Limits.{distanceLimit, wordLimit}
 use Rattle.model.specs.Judged.{Judged, good, bad}
@@ -49,6 +51,13 @@ pub record FirstToHold (j : Judged Tables) (area l r : ℕ) (a : Answer) (after 
       → (a ≡ Refused 11) ↔ (Known t l r × Linked (t .conns) l r × (distanceOf t l r ≤ distanceLimit) × Exceeds t area l r)
   pub zero : (n : ℕ) → a ≡ Refused n → after ≡ replicate area 0
   pub kept : length after ≡ area
+
+-- and of a distance m
+pub record FirstMeasured (j : Judged Tables) (l r : ℕ) (m : Measured) : Type 0 where
+  pub tables : (n : ℕ) → j ≡ bad n → m ≡ Unmeasured n
+  pub is-8 : (t : Tables) → j ≡ good t → (m ≡ Unmeasured 8) ↔ Missing t l r
+  pub is-9 : (t : Tables) → j ≡ good t → (m ≡ Unmeasured 9) ↔ (Known t l r × Unlinked t l r)
+  pub is-10 : (t : Tables) → j ≡ good t → (m ≡ Unmeasured 10) ↔ (Known t l r × Linked (t .conns) l r × (distanceLimit < distanceOf t l r))
 
 -- what a query needs to be answered: none of these holds
 pub record Asked (t : Tables) (area l r : ℕ) : Type 0 where
