@@ -22,8 +22,8 @@ use Rattle.forest.specs.Rows.{Climbs, ageIn, ageOf, costIn, depthIn, nextIn}
 use Rattle.forest.proofs.Ages.{age-new, age-old}
 use Rattle.forest.proofs.Climbing.{next-in}
 use Rattle.costs.specs.Costs.{Above}
-use Rattle.trees.specs.Area.{splice, part}
-use Rattle.trees.proofs.Area.{length-part, splice-middle}
+use Rattle.laws.specs.Area.{splice, part}
+use Rattle.laws.proofs.Area.{length-part, splice-middle}
 use Rattle.trail.specs.Legs.{ages, costly}
 use Rattle.trail.specs.Laid.{agesAt, LaidOut}
 

@@ -16,8 +16,8 @@ use Rattle.paths.specs.Meet.{topOf}
 use Rattle.paths.proofs.Ways.{hop, ups, downs}
 use Rattle.paths.proofs.Above.{walk-climb, halves}
 use Rattle.forest.specs.Rows.{costIn}
-use Rattle.trees.specs.Area.{splice}
-use Rattle.trees.proofs.Area.{splice-inside}
+use Rattle.laws.specs.Area.{splice}
+use Rattle.laws.proofs.Area.{splice-inside}
 use Rattle.trail.specs.Legs.{Leg, costly, legs, ages}
 use Rattle.trail.specs.Laid.{LaidOut}
 

@@ -9,7 +9,7 @@ use Rattle.model.specs.Limits.{termLimit}
 use Rattle.paths.specs.Meet.{topOf}
 use Rattle.forest.specs.Rows.{Climbs, ageIn, costIn}
 use Rattle.costs.specs.Costs.{Above}
-use Rattle.trees.specs.Area.{splice}
+use Rattle.laws.specs.Area.{splice}
 use Rattle.trail.specs.Legs.{ages, costly}
 
 -- the age of a node's parent connection, if that costs anything

@@ -17,7 +17,7 @@ ghost use Rattle.model.specs.declared.Connection.{Connection};
 ghost use Rattle.model.specs.Limits.{nodeLimit, termLimit};
 ghost use Rattle.forest.specs.Rows.{Climbs, ageIn};
 ghost use Rattle.costs.specs.Costs.{Above};
-ghost use Rattle.trees.specs.Area.{splice};
+ghost use Rattle.laws.specs.Area.{splice};
 ghost use Rattle.trail.specs.Legs.{ages};
 ghost use Rattle.trail.specs.Laid.{agesAt, Rising, Layable, LaidOut};
 

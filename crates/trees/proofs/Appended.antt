@@ -12,8 +12,9 @@ use Rattle.model.specs.Term.{marked, one, words, directionWord}
 use Rattle.model.specs.Node.{row, termOf}
 use Rattle.model.specs.Flat.{sizeOf, markedTerm}
 use Rattle.entries.specs.Nodes.{nodesOf, NodesWhole, childrenIn}
-use Rattle.trees.specs.Area.{splice, part, bare, rootIn, directionOf}
-use Rattle.trees.proofs.Area.{length-splice, length-part, part-before, splice-more, splice-front}
+use Rattle.laws.specs.Area.{splice, part}
+use Rattle.trees.specs.Area.{bare, rootIn, directionOf}
+use Rattle.laws.proofs.Area.{length-splice, length-part, part-before, splice-more, splice-front}
 use Rattle.trees.proofs.Bare.{length-bare}
 use Rattle.trees.proofs.Planted.{marked-spelled, term-spelled, term-long}
 

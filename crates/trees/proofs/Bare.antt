@@ -11,8 +11,9 @@ use Rattle.model.specs.Node.{Node, row, termOf}
 use Rattle.terms.proofs.Rows.{count-strip, length-words}
 use Rattle.flat.proofs.Rows.{unmarked-strip}
 use Rattle.flat.proofs.NodeTerms.{term-strip, terms-unmarked}
-use Rattle.trees.specs.Area.{part, WholeNodes, bare}
-use Rattle.trees.proofs.Area.{length-part, part-none, part-more, part-cons, cut-part, part-middle}
+use Rattle.laws.specs.Area.{part}
+use Rattle.trees.specs.Area.{WholeNodes, bare}
+use Rattle.laws.proofs.Area.{length-part, part-none, part-more, part-cons, cut-part, part-middle}
 
 pub length-bare : (ws : List ℕ) → length (bare ws) ≡ length ws
 unfolding bare

@@ -5,8 +5,9 @@ use mathlib.Core.Path.{_≡_, sym, ap, ap₂, _∙_}
 use mathlib.Core.List.{List, [], _∷_, _++_}
 use lib.ListN.{length, getD, set, take, replicate, length-replicate, replicate-append-replicate}
 use Rattle.model.specs.Limits.{flatWords}
-use Rattle.trees.specs.Area.{splice, part, WholeNodes, bare}
-use Rattle.trees.proofs.Area.{length-splice, splice-before, length-part, part-none, splice-none, splice-more, splice-push, splice-end}
+use Rattle.laws.specs.Area.{splice, part}
+use Rattle.trees.specs.Area.{WholeNodes, bare}
+use Rattle.laws.proofs.Area.{length-splice, splice-before, length-part, part-none, splice-none, splice-more, splice-push, splice-end}
 use Rattle.trees.proofs.Bare.{length-bare, bare-more}
 
 -- the nodes from a place up to i are copied, up to j

@@ -11,8 +11,9 @@ use Rattle.model.specs.Node.{row, termOf}
 use Rattle.model.specs.Flat.{sizeOf}
 use Rattle.entries.specs.Nodes.{nodesOf, NodesWhole, countIn, childIn, childrenIn}
 use Rattle.entries.proofs.Children.{left, left-all, left-next, left-none}
-use Rattle.trees.specs.Area.{splice, rootIn}
-use Rattle.trees.proofs.Area.{splice-more}
+use Rattle.laws.specs.Area.{splice}
+use Rattle.trees.specs.Area.{rootIn}
+use Rattle.laws.proofs.Area.{splice-more}
 use Rattle.trees.proofs.Planted.{Planted, planted-none, planted-length, planted-room, planted-more, planted-all, term-spelled, term-long}
 
 -- where a node's children stand in the table, and those from the i-th on

@@ -1,4 +1,3 @@
-pub mod Area
 pub mod Bare
 pub mod Around
 pub mod Copied

@@ -17,8 +17,9 @@ use Rattle.entries.proofs.Children.{length-words}
 use Rattle.flat.specs.Nodes.{AcceptedNodes}
 use Rattle.flat.proofs.NodeTerms.{row-count, term-size, terms-size, term-is}
 use Rattle.flat.proofs.Tables.{table-nodes}
-use Rattle.trees.specs.Area.{splice, rootIn}
-use Rattle.trees.proofs.Area.{length-splice, splice-none, splice-more}
+use Rattle.laws.specs.Area.{splice}
+use Rattle.trees.specs.Area.{rootIn}
+use Rattle.laws.proofs.Area.{length-splice, splice-none, splice-more}
 
 -- A term's words are four for each of its nodes.
 pub length-term : (ns : List Node) (n : ℕ) → length (words (one (termOf ns n))) ≡ flatWords * sizeOf ns n

@@ -1,22 +1,14 @@
--- Words in an area: written over others, a part of them, without their marks, and rows of terms between the same words.
-use Prim.Native.Nat.{ℕ, zero, suc, _+_, _*_, _/_}
+-- Words in an area: whole nodes of them, without their marks, and rows of terms between the same words.
+use Prim.Native.Nat.{ℕ, zero, suc, _*_, _/_}
 use mathlib.Core.Path.{_≡_}
 use mathlib.Core.List.{List, [], _∷_, _++_}
-use lib.ListN.{length, getD, take, drop}
+use lib.ListN.{getD}
 use Rattle.model.specs.declared.Direction.{Direction}
 use Rattle.model.specs.declared.Direction.the-variants.{Forward, Backward}
 use Rattle.model.specs.Limits.{flatWords}
 use Rattle.model.specs.Tables.{nodeWords}
 use Rattle.model.specs.Term.{Terms, noTerms, tree, words}
 use Rattle.entries.specs.Nodes.{countIn}
-
--- words written over others from a place on: what stood before them and behind them stays
-unfoldable pub splice : List ℕ → ℕ → List ℕ → List ℕ
-splice old at ws = take at old ++ (ws ++ drop (at + length ws) old)
-
--- n words from a place on
-unfoldable pub part : List ℕ → ℕ → ℕ → List ℕ
-part ws at n = take n (drop at ws)
 
 -- a number of words that is whole nodes
 abbrev pub WholeNodes : ℕ → Type 0

@@ -25,7 +25,8 @@ ghost use Rattle.model.specs.Node.{termOf};
 ghost use Rattle.model.specs.Flat.{sum, sizeOf, walked, markedTerm};
 ghost use Rattle.model.specs.Tables.{nodeWords};
 ghost use Rattle.entries.specs.Nodes.{nodesOf, NodesWhole, KnownIn, childrenIn};
-ghost use Rattle.trees.specs.Area.{splice, part, WholeNodes, bare, rootIn, directionOf};
+ghost use Rattle.laws.specs.Area.{splice, part};
+ghost use Rattle.trees.specs.Area.{WholeNodes, bare, rootIn, directionOf};
 ghost use Rattle.trees.specs.Sizes.{heldNodes, tableBound, filledSizes};
 
 // The first number of nodes whose words are past the limit: what is above is held here.

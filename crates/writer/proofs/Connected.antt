@@ -19,7 +19,8 @@ use Rattle.entries.specs.Connections.{connectionIn, Supported}
 use Rattle.entries.proofs.Support.{current-here, next-here, twins}
 use Rattle.costs.specs.Costs.{nodesIn}
 use Rattle.flat.proofs.NodeTerms.{term-size}
-use Rattle.trees.specs.Area.{splice, around, directionOf}
+use Rattle.laws.specs.Area.{splice}
+use Rattle.trees.specs.Area.{around, directionOf}
 use Rattle.trees.specs.declared.Spot.{Spot}
 use Rattle.writer.specs.Appends.{startOf, legTerms, twinTerms}
 use Rattle.writer.specs.Written.{preOf, postOf, Stood, Wrote, Matched}

@@ -17,9 +17,10 @@ use Rattle.forest.specs.Rows.{connectionsOf}
 use Rattle.costs.specs.Costs.{Between}
 use Rattle.flat.proofs.NodeTerms.{term-size}
 use Rattle.flat.proofs.Way.{way}
-use Rattle.trees.specs.Area.{around, part, bare, splice}
+use Rattle.laws.specs.Area.{part, splice}
+use Rattle.trees.specs.Area.{around, bare}
 use Rattle.trees.specs.declared.Spot.{Spot}
-use Rattle.trees.proofs.Area.{length-splice, part-written, splice-all, splice-more}
+use Rattle.laws.proofs.Area.{length-splice, part-written, splice-all, splice-more}
 use Rattle.trees.proofs.Around.{around-none}
 use Rattle.trees.proofs.Bare.{bare-term, whole-words}
 use Rattle.writer.specs.Appends.{termWords}

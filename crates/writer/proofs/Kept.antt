@@ -5,8 +5,8 @@ use mathlib.Core.Path.{_≡_, refl, sym, ap, _∙_}
 use native.Mathlib.Omega.{arith}
 use lib.ListN.{length, take}
 use lib.Seq.{take-take}
-use Rattle.trees.specs.Area.{splice}
-use Rattle.trees.proofs.Area.{length-splice, take-splice}
+use Rattle.laws.specs.Area.{splice}
+use Rattle.laws.proofs.Area.{length-splice, take-splice}
 use Rattle.writer.specs.Written.{Kept}
 
 pub kept-all : {n : ℕ} {a : List ℕ} → Kept n a a

@@ -10,7 +10,7 @@ use Rattle.model.specs.Term.{Terms, count, join}
 use Rattle.flat.specs.Ends.{Leads}
 use Rattle.trees.specs.Area.{around, WholeNodes}
 use Rattle.trees.specs.declared.Spot.{Spot}
-use Rattle.trees.proofs.Area.{length-splice}
+use Rattle.laws.proofs.Area.{length-splice}
 use Rattle.trees.proofs.Around.{around-join}
 use Rattle.writer.specs.Appends.{termWords}
 use Rattle.writer.specs.Written.{preOf, postOf, Ran, Wrote, WriterAsks}

@@ -9,9 +9,10 @@ use Rattle.model.specs.Node.{Node, termOf}
 use Rattle.model.specs.Term.{Terms, noTerms, tree, one, strip, words, join}
 use Rattle.flat.specs.Ends.{lastOr, Leads}
 use Rattle.flat.proofs.NodeTerms.{term-strip}
-use Rattle.trees.specs.Area.{splice, part, bare, around, WholeNodes}
+use Rattle.laws.specs.Area.{splice, part}
+use Rattle.trees.specs.Area.{bare, around, WholeNodes}
 use Rattle.trees.specs.declared.Spot.{Spot}
-use Rattle.trees.proofs.Area.{length-splice, length-part, part-more, part-part, part-middle, part-written, splice-none, splice-more}
+use Rattle.laws.proofs.Area.{length-splice, length-part, part-more, part-part, part-middle, part-written, splice-none, splice-more}
 use Rattle.trees.proofs.Bare.{length-bare, bare-bare, bare-append, bare-part, bare-words, whole-words}
 use Rattle.trees.proofs.Around.{around-join}
 use Rattle.writer.specs.Written.{preOf, postOf, Stood, Ran}

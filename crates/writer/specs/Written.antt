@@ -9,7 +9,8 @@ use Rattle.model.specs.Term.{Terms, count}
 use Rattle.model.specs.Forest.{root}
 use Rattle.entries.specs.Connections.{TwinsIn, oldest}
 use Rattle.costs.specs.Costs.{nodesIn}
-use Rattle.trees.specs.Area.{splice, part, bare, around, WholeNodes}
+use Rattle.laws.specs.Area.{splice, part}
+use Rattle.trees.specs.Area.{bare, around, WholeNodes}
 use Rattle.trees.specs.declared.Spot.{Spot}
 
 -- the words before and behind a subterm of n words, without their marks

@@ -6,8 +6,8 @@ use mathlib.Core.List.{[], _∷_}
 use mathlib.Core.Path.{_≡_, sym, ap, _∙_}
 use lib.ListN.{length, set}
 use Rattle.forest.specs.Rows.{ageIn}
-use Rattle.trees.specs.Area.{splice}
-use Rattle.trees.proofs.Area.{splice-none, splice-one}
+use Rattle.laws.specs.Area.{splice}
+use Rattle.laws.proofs.Area.{splice-none, splice-one}
 use Rattle.trail.specs.Laid.{agesAt}
 use Rattle.trail.proofs.Laying.{ages-none, ages-one}
 use Rattle.trail.proofs.lay.Statement.{statement}

@@ -9,8 +9,8 @@ use Rattle.model.specs.declared.Connection.{Connection}
 use Rattle.model.specs.Limits.{nodeLimit, termLimit}
 use Rattle.forest.specs.Rows.{Climbs, depthIn}
 use Rattle.costs.specs.Costs.{Above}
-use Rattle.trees.specs.Area.{splice}
-use Rattle.trees.proofs.Area.{length-splice, splice-more, splice-none}
+use Rattle.laws.specs.Area.{splice}
+use Rattle.laws.proofs.Area.{length-splice, splice-more, splice-none}
 use Rattle.trail.specs.Laid.{agesAt}
 use Rattle.trail.proofs.Laying.{Climb, climb-aged, climb-all, climb-falls, climb-next, climb-none, climb-room}
 use Rattle.trail.proofs.lay_down.Statement.{statement}

@@ -11,8 +11,8 @@ use Rattle.paths.specs.Meet.{topOf}
 use Rattle.forest.specs.Rows.{Climbs}
 use Rattle.costs.specs.Costs.{Above}
 use Rattle.costs.proofs.Climbs.{never-nowhere, two-at}
-use Rattle.trees.specs.Area.{splice}
-use Rattle.trees.proofs.Area.{length-splice, splice-more}
+use Rattle.laws.specs.Area.{splice}
+use Rattle.laws.proofs.Area.{length-splice, splice-more}
 use Rattle.trail.specs.Legs.{ages}
 use Rattle.trail.proofs.Laying.{laid-out, top-at}
 use Rattle.trail.proofs.lay_path.Statement.{statement}

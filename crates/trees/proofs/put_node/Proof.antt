@@ -2,7 +2,7 @@
 use native.Mathlib.Omega.{arith}
 use borrow.Author.Needs.{needs}
 use lib.ListN.{length-set}
-use Rattle.trees.proofs.Area.{splice-node}
+use Rattle.laws.proofs.Area.{splice-node}
 use Rattle.trees.proofs.put_node.Statement.{statement}
 use Rattle.trees.proofs.put_node.Tie as tie
 

@@ -4,7 +4,7 @@ use borrow.Author.Needs.{needs}
 use Prim.Native.Nat.{ℕ}
 use mathlib.Core.Path.{ap₂, _∙_}
 use mathlib.Core.List.{[], _∷_}
-use Rattle.trees.specs.Area.{splice}
+use Rattle.laws.specs.Area.{splice}
 use Rattle.trees.proofs.put_root.Statement.{statement}
 use Rattle.trees.proofs.put_root.Tie as tie
 

@@ -15,7 +15,8 @@ use Rattle.model.specs.Flat.{markFor, markedTerm, walked}
 use Rattle.entries.specs.Connections.{connectionIn}
 use Rattle.entries.specs.Nodes.{nodesOf}
 use Rattle.costs.specs.Costs.{nodesIn}
-use Rattle.trees.specs.Area.{around, directionOf, splice}
+use Rattle.laws.specs.Area.{splice}
+use Rattle.trees.specs.Area.{around, directionOf}
 use Rattle.writer.specs.Appends.{startOf, legTerms, termWords, twinTerms}
 use Rattle.writer.specs.Written.{postOf, preOf, WriterAsks, Matched, Wrote}
 use Rattle.writer.proofs.Connected.{leg-rule, leg-twin, mark-word, marked-room, marked-wrote, matched, same-direction, start-in}

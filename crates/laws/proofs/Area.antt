@@ -8,7 +8,7 @@ use mathlib.Core.List.{List, [], _∷_, _++_, append-assoc, append-nil}
 use lib.ListN.{length, getD, set, take, drop, length-append, length-drop, length-take, take-append-drop, drop-of-length-le, List·getD-append}
 use lib.Seq.{drop-cons, length-take-le, take-all, drop-append-add, getD-append-add, getD-take, getD-drop, take-add, take-at, drop-at, drop-drop, set-split, ext-getD}
 use Rattle.model.specs.Limits.{flatWords}
-use Rattle.trees.specs.Area.{splice, part}
+use Rattle.laws.specs.Area.{splice, part}
 
 -- What stands in words written over others: before them, in them, behind them.
 module _ (old : List ℕ) (at : ℕ) (ws : List ℕ) (fits : at + length ws ≤ length old) where
