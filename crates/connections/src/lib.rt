@@ -106,7 +106,7 @@ fn joined(classes: &[u16], a: NodeNo, b: NodeNo) -> bool
 }
 
 // Where there is no connection, each node is a class of its own.
-fn part(classes: &mut [u16])
+pub fn part(classes: &mut [u16])
     requires { ⌜ length (now classes) ≤ nodeLimit ⌝ }
     ensures { λ _. ⌜ now (classes .exit) ≡ upTo (length (now (classes .entry))) ⌝ }
 {
@@ -125,7 +125,7 @@ fn rename(from: u16, to: u16, top: u16) -> u16
 }
 
 // One more connection: the class of `a` comes below that of `b`.
-fn join(classes: &mut [u16], a: NodeNo, b: NodeNo)
+pub fn join(classes: &mut [u16], a: NodeNo, b: NodeNo)
     requires { ⌜ (a .0 < length (now classes)) × (b .0 < length (now classes)) ⌝ }
     ensures { λ _. ⌜ now (classes .exit) ≡ classesJoined (now (classes .entry)) (a .0) (b .0) ⌝ }
 {
@@ -203,7 +203,7 @@ fn judge_connection(nodes: &[u16], classes: &[u16], c: Connection) -> Judgement
 }
 
 // Judges the entry of an age, behind the older ones, whose classes are lent.
-fn judge_entry(nodes: &[u16], classes: &[u16], conns: &[u16], age: usize) -> Judgement
+pub fn judge_entry(nodes: &[u16], classes: &[u16], conns: &[u16], age: usize) -> Judgement
     requires { ⌜ NodesWhole (now nodes) × Forest (oldest age (now conns)) × (age ≤ nodeLimit) ⌝ }
     requires { ⌜ Classes (oldest age (now conns)) (length (now nodes) / nodeWords) (now classes) ⌝ }
     ensures { λ r. ⌜ r ≡ judgementOf (addConnection (nodesOf (now (nodes .entry))) (oldest age (now (conns .entry))) (connectionEntry (now (conns .entry)) age)) ⌝ }

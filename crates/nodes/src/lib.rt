@@ -59,7 +59,7 @@ fn children_below(nodes: &[u16], n: usize) -> bool
 }
 
 // Judges the entry of node n, behind the nodes before it.
-fn judge_node(nodes: &[u16], n: usize) -> Judgement
+pub fn judge_node(nodes: &[u16], n: usize) -> Judgement
     requires { ⌜ n ≤ nodeLimit ⌝ }
     ensures { λ r. ⌜ r ≡ judgementOf (addNode (firstNodes n (now (nodes .entry))) (nodeEntry (now (nodes .entry)) n)) ⌝ }
 {
