@@ -1,14 +1,19 @@
 -- No second outcome fits: two results, and two values left with the caller, that meet a public contract of this crate for the same
 -- arguments are equal. Entry points ask nothing of their arguments, so this holds for any words.
 use Prim.Native.Nat.{ℕ}
-use mathlib.Core.Path.{_≡_, sym, _∙_}
+use mathlib.Core.List.{[]}
+use mathlib.Core.Path.{_≡_, refl, sym, _∙_}
 use contract.Lifetimes.{Lfts}
 use denote.Ref.{now}
 use Rattle.model.specs.declared.Answer.{Answer}
 use Rattle.model.specs.declared.Measured.{Measured}
 use Rattle.model.specs.declared.Verdict.{Verdict}
+use Rattle.model.specs.Query.{Tables}
+use Rattle.entries.specs.Nodes.{nodesOf}
+use Rattle.forest.specs.Rows.{connectionsOf}
 use Rattle.explanation.proofs.check.Reads as check
 use Rattle.explanation.proofs.distance.Reads as distance
+use Rattle.explanation.proofs.respond.Reads as respond
 use Rattle.explanation.proofs.query.Reads as query
 use Rattle.explanation.proofs.erbighenti_check.Reads as check-in-c
 use Rattle.explanation.proofs.erbighenti_distance.Reads as distance-in-c
@@ -19,6 +24,15 @@ check-only κs a s s′ r r′ p q = p ∙ sym q
 
 distance-only : (κs : Lfts 3) (a s s′ : _) (r r′ : Measured) → distance.Post κs a r s → distance.Post κs a r′ s′ → r ≡ r′
 distance-only κs a s s′ r r′ p q = p ∙ sym q
+
+-- (the rules play no part)
+respond-only : (κs : Lfts 3) (a s s′ : _) (r r′ : Answer) → respond.Post κs a r s → respond.Post κs a r′ s′ →
+    (r ≡ r′) × (now (s .1 .1 .1 .1 .0) ≡ now (s′ .1 .1 .1 .1 .0))
+respond-only κs a s s′ r r′ p q =
+    let t : Tables = record { nodes = nodesOf (now (a .0)); rules = []; conns = connectionsOf (now (a .1 .0)) } in
+    let x = p t refl refl in
+    let y = q t refl refl in
+    (x .0 ∙ sym (y .0), x .1 ∙ sym (y .1))
 
 query-only : (κs : Lfts 4) (a s s′ : _) (r r′ : Answer) → query.Post κs a r s → query.Post κs a r′ s′ →
     (r ≡ r′) × (now (s .1 .1 .1 .1 .1 .0) ≡ now (s′ .1 .1 .1 .1 .1 .0))

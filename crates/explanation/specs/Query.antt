@@ -6,7 +6,7 @@ use mathlib.Core.Path.{_≡_}
 use lib.ListN.{length, take}
 use Rattle.model.specs.declared.Answer.{Answer}
 use Rattle.model.specs.declared.Answer.the-variants.{Written, Refused}
-use Rattle.model.specs.Query.{Tables, proofWords, answer}
+use Rattle.model.specs.Query.{Tables, proofWords, answer, areaAfter}
 use Rattle.entries.specs.Nodes.{nodesOf}
 use Rattle.forest.specs.Rows.{connectionsOf}
 
@@ -17,3 +17,8 @@ InFront (Refused n) t l r area = Unit {0}
 abbrev pub Answers : List ℕ → List ℕ → List ℕ → ℕ → ℕ → Answer → List ℕ → Type 0
 Answers nws cws before l r a after =
     (t : Tables) → t .nodes ≡ nodesOf nws → t .conns ≡ connectionsOf cws → (a ≡ answer t (length before) l r) × InFront a t l r after
+
+-- the same, with all that the area holds then
+abbrev pub Responds : List ℕ → List ℕ → ℕ → ℕ → ℕ → Answer → List ℕ → Type 0
+Responds nws cws area l r a after =
+    (t : Tables) → t .nodes ≡ nodesOf nws → t .conns ≡ connectionsOf cws → (a ≡ answer t area l r) × (after ≡ areaAfter t area l r)

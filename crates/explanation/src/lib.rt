@@ -24,7 +24,7 @@ ghost use Rattle.entries.specs.Connections.{Supported};
 ghost use Rattle.entries.specs.Nodes.{NodesWhole};
 ghost use Rattle.forest.specs.Rows.{tableWords};
 ghost use Rattle.explanation.specs.Measure.{Measures, Ways, Routed};
-ghost use Rattle.explanation.specs.Query.{Answers};
+ghost use Rattle.explanation.specs.Query.{Answers, Responds};
 
 // Tables handed in whole are judged before all else: nodes, rules, connections; the first bad entry decides.
 fn judge_tables(nodes: &[u16], rules: &[u16], connections: &[u16]) -> Judgement
@@ -155,8 +155,31 @@ fn answer(
     }
 }
 
-// A query over tables handed in whole: the distance and the words written, or the refusal. Behind a written proof the area is zero, and
-// after a refusal all of it, whatever it held.
+// The same, and the area zero behind what was written; after a refusal all of it is, whatever it held.
+pub fn respond(
+    nodes: &[u16],
+    connections: &[u16],
+    left: NodeNo,
+    right: NodeNo,
+    area: &mut [u16],
+) -> Answer
+    requires { ⌜ NodesWhole (now nodes) × Supported (now nodes) (length (now nodes) / nodeWords) (now connections) (length (now connections) / connectionWords) ⌝ }
+    ensures { λ r. ⌜ Responds (now (nodes .entry)) (now (connections .entry)) (length (now (area .entry))) (left .0) (right .0) r (now (area .exit)) ⌝ }
+{
+    let a = answer(nodes, connections, left, right, area);
+    match a {
+        Answer::Written(d, w) => {
+            clear_from(area, w);
+            Answer::Written(d, w)
+        }
+        Answer::Refused(number) => {
+            clear_from(area, 0);
+            Answer::Refused(number)
+        }
+    }
+}
+
+// A query over tables handed in whole: the distance and the words written, or the refusal.
 pub fn query(
     nodes: &[u16],
     rules: &[u16],
@@ -173,17 +196,7 @@ pub fn query(
         clear_from(area, 0);
         return Answer::Refused(number);
     }
-    let a = answer(nodes, connections, left, right, area);
-    match a {
-        Answer::Written(d, w) => {
-            clear_from(area, w);
-            Answer::Written(d, w)
-        }
-        Answer::Refused(number) => {
-            clear_from(area, 0);
-            Answer::Refused(number)
-        }
-    }
+    respond(nodes, connections, left, right, area)
 }
 
 // The same for C: the number is returned (0 for success), the count of terms or the place stands behind `value`.
