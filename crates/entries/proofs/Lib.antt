@@ -4,3 +4,4 @@ pub mod Connections
 pub mod Judging
 pub mod Support
 pub mod Kept
+pub mod Grown

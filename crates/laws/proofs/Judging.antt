@@ -1,5 +1,5 @@
 -- "First bad entry decides": what judging a table entry by entry gives.
-use Prim.Native.Nat.{ℕ, zero, suc, _≤_}
+use Prim.Native.Nat.{ℕ, zero, suc, _≤_, _<_}
 use mathlib.Core.Path.{_≡_, refl, subst}
 use mathlib.Core.Bool.{Bool, true, false}
 use mathlib.Core.Option.{Option, some}
@@ -57,3 +57,10 @@ module _ {A E : Type 0} (add : A → Option E → Judged A) (entry : ℕ → Opt
       go : (j : Judged A) → ((b : A) → j ≡ good b → P b) → andAdd add entry start j (entry k) ≡ good a → P a
       go (bad n) q h = absurd (never-good h)
       go (good b) q h = next k b a (q b refl) h
+
+-- entries that are the same, one by one, come to the same table
+module _ {A E : Type 0} (add : A → Option E → Judged A) (start : A) (entry other : ℕ → Option E) where
+  pub entries-same : (k : ℕ) → ((i : ℕ) → i < k → entry i ≡ other i) → entries add entry start k ≡ entries add other start k
+  unfolding entries
+  entries-same zero same = refl
+  entries-same (suc k) same = λ t. andAdd add entry start (entries-same k (λ i h. same i (omega arith)) t) (same k (omega arith) t)
