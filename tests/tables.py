@@ -111,6 +111,15 @@ def among_large(levels):
     return nodes, [by_rule(0, t + 1), congruent(t + 2, t + 3)], t + 2, t + 3
 
 
+def many_small(leaves, back=7):
+    """two nodes with a chain of leaves under three children, and four full trees of 15 nodes held beside them: each term has 64 nodes"""
+    nodes = full(3) + [(10 + i % 2, []) for i in range(leaves)]
+    first, last = 4, 3 + leaves
+    nodes += [(3, [end] * 3 + [3] * 4) for end in (first, last)]
+    links = [by_rule(first + i, first + i + 1, back if i % 2 else 7) for i in range(leaves - 1)]
+    return nodes, links + [congruent(last + 1, last + 2)], last + 1, last + 2
+
+
 def random_table(rng):
     """small tables in which most entries are good"""
     nodes = []

@@ -6,4 +6,6 @@ pub mod Names
 pub mod Allow
 pub mod Pairs
 pub mod Later
+pub mod Tests
+pub mod Faults
 pub mod Only

@@ -1,5 +1,6 @@
 -- FROM THE CONTRACTS TO THE CUSTOMER'S SENTENCES, in one step each. Whatever meets the contract of `query`, on arguments a, with result r
--- and what s leaves with the caller, keeps demands 1 and 3, whatever meets that of `check` demand 2; and what the one wrote, the other accepts.
+-- and what s leaves with the caller, keeps demands 1 and 3, whatever meets that of `check` demands 1 and 2; and what the one wrote, the other
+-- accepts.
 -- The arguments stand in their order: a .0 nodes, a .1 .0 rules, a .1 .1 .0 connections, then left, right and the area; so do those of
 -- `check`, with the words last.
 -- Assumes nothing.
@@ -21,7 +22,8 @@ use Rattle.model.specs.Premise.{Premise}
 use Rattle.model.specs.Query.{Tables, distanceOf, proofWords}
 use Rattle.model.specs.Verdict.{Proves}
 use Rattle.model.specs.Tables.{judgeTables, measureBy, answerBy, areaOf, verdictBy}
-use Rattle.explanation.specs.Demand.{FirstToHold, FirstMeasured, Asked, Granted}
+use Rattle.checker.proofs.Faults.{demand-1 as first-fault}
+use Rattle.explanation.specs.Demand.{FirstToHold, FirstMeasured, FirstRejected, Asked, Granted}
 use Rattle.explanation.proofs.Answers.{unmeasured-8, unmeasured-9, unmeasured-10}
 use Rattle.explanation.proofs.DemandThree.{answered, area-kept, bad-tables, demand-3 as grants, refused-10, refused-11, refused-8, refused-9, refused-zero}
 use Rattle.explanation.proofs.DemandTwo.{demand-2 as strict}
@@ -61,10 +63,24 @@ pub demand-1 : (κs : Lfts 4) (a s : _) (r : Answer) → query.Post κs a r s �
     r (now (s .1 .1 .1 .1 .1 .0))
 demand-1 κs a s r p = first-to-hold (now (a .0)) (now (a .1 .0)) (now (a .1 .1 .0)) _ _ _ r _ (p .0) (p .1)
 
--- bad tables come before all else in `check` too
+-- DEMAND 1 of `check`
+first-rejected : (nws rws cws ws : List ℕ) → FirstRejected (judgeTables nws rws cws) ws (verdictBy (judgeTables nws rws cws) ws)
+first-rejected nws rws cws ws =
+    record {
+      tables = λ n e. rw e refl;
+      rejected = λ t e n k. rw e (first-fault (t .rules) ws n k);
+    }
+
+pub demand-1-check : (κs : Lfts 4) (a s : _) (v : Verdict) → check.Post κs a v s →
+    FirstRejected (judgeTables (now (a .0)) (now (a .1 .0)) (now (a .1 .1 .0))) (now (a .1 .1 .1 .0)) v
+demand-1-check κs a s v p =
+    subst (FirstRejected (judgeTables (now (a .0)) (now (a .1 .0)) (now (a .1 .1 .0))) (now (a .1 .1 .1 .0))) (sym p)
+    (first-rejected (now (a .0)) (now (a .1 .0)) (now (a .1 .1 .0)) (now (a .1 .1 .1 .0)))
+
+-- bad tables come before all else in it too
 pub bad-first : (κs : Lfts 4) (a s : _) (v : Verdict) → check.Post κs a v s → (n : ℕ) →
     judgeTables (now (a .0)) (now (a .1 .0)) (now (a .1 .1 .0)) ≡ bad n → v ≡ Rejected n 0
-bad-first κs a s v p n e = p ∙ bad-tables (now (a .0)) (now (a .1 .0)) (now (a .1 .1 .0)) n e 0 0 0 (now (a .1 .1 .1 .0)) .1
+bad-first κs a s v p = demand-1-check κs a s v p .tables
 
 -- DEMAND 1 of `distance`
 first-measured : (nws rws cws : List ℕ) (l r : ℕ) → FirstMeasured (judgeTables nws rws cws) l r (measureBy (judgeTables nws rws cws) l r)

@@ -1,4 +1,4 @@
--- What demand 3 and a query's refusals speak of: the conditions in the words of document 01, and what is granted.
+-- What demand 3 and the refusals speak of: the conditions in the words of document 01, and what is granted.
 -- Assumes nothing.
 use Prim.Native.Nat.{ℕ, suc, _-_, _≤_, _<_}
 use mathlib.Core.Bool.{false}
@@ -10,7 +10,8 @@ use Rattle.model.specs.declared.Answer.{Answer}
 use Rattle.model.specs.declared.Answer.the-variants.{Written, Refused}
 use Rattle.model.specs.declared.Measured.{Measured}
 use Rattle.model.specs.declared.Measured.the-variants.{Unmeasured}
-use Rattle.model.specs.declared.Verdict.the-variants.{Accepted}
+use Rattle.model.specs.declared.Verdict.{Verdict}
+use Rattle.model.specs.declared.Verdict.the-variants.{Accepted, Rejected}
 use Rattle.model.specs.Limits.{distanceLimit, wordLimit}
 use Rattle.model.specs.Judged.{Judged, good, bad}
 use Rattle.model.specs.Term.{one, count, strip}
@@ -21,6 +22,7 @@ use Rattle.model.specs.Flat.{later}
 use Rattle.model.specs.Premise.{Premise}
 use Rattle.model.specs.Query.{Tables, distanceOf, proofOf, proofWords}
 use Rattle.model.specs.Tables.{answerBy, areaOf, verdictBy}
+use Rattle.checker.specs.Fault.{FirstFault}
 use Rattle.flat.specs.Ends.{first, last}
 use Rattle.flat.specs.Marks.{OneMarkEach}
 
@@ -58,6 +60,11 @@ pub record FirstMeasured (j : Judged Tables) (l r : ℕ) (m : Measured) : Type 0
   pub is-8 : (t : Tables) → j ≡ good t → (m ≡ Unmeasured 8) ↔ Missing t l r
   pub is-9 : (t : Tables) → j ≡ good t → (m ≡ Unmeasured 9) ↔ (Known t l r × Unlinked t l r)
   pub is-10 : (t : Tables) → j ≡ good t → (m ≡ Unmeasured 10) ↔ (Known t l r × Linked (t .conns) l r × (distanceLimit < distanceOf t l r))
+
+-- and of the verdict v on words: bad tables before all else, at place 0; then each number and place exactly where that fault is the first
+pub record FirstRejected (j : Judged Tables) (ws : List ℕ) (v : Verdict) : Type 0 where
+  pub tables : (n : ℕ) → j ≡ bad n → v ≡ Rejected n 0
+  pub rejected : (t : Tables) → j ≡ good t → (n k : ℕ) → (v ≡ Rejected n k) ↔ FirstFault (t .rules) ws n k
 
 -- what a query needs to be answered: none of these holds
 pub record Asked (t : Tables) (area l r : ℕ) : Type 0 where
