@@ -1,0 +1,4 @@
+pub mod Slots
+pub mod Connections
+pub mod Asked
+pub mod Only
