@@ -14,9 +14,7 @@ use Rattle.model.specs.Judged.{Judged, good, judgementOf}
 use Rattle.model.specs.Connect.{addConnection}
 use Rattle.model.specs.Tables.{connectionEntry, nodeWords, connectionWords}
 use Rattle.laws.specs.Area.{splice, part}
-use Rattle.laws.proofs.Area.{length-splice, length-part, take-splice, part-written}
 use Rattle.laws.proofs.Judging.{one-more}
-use Rattle.laws.proofs.Lent.{lent-part, lent-back}
 use Rattle.layouts.specs.Words.{wordsOfConnection}
 use Rattle.layouts.proofs.Back.{connection-words}
 use Rattle.entries.specs.Nodes.{nodesOf}
@@ -25,9 +23,10 @@ use Rattle.entries.proofs.Connections.{connections}
 use Rattle.entries.proofs.Grown.{connection-slot, connections-front}
 use Rattle.connections.specs.Classes.{Classes, Sofar}
 use Rattle.decode.specs.Slot.{slotBy}
+use Rattle.tables.proofs.Put.{put-long, put-front, put-slot, put-back}
 
 -- accepted connections and their classes, where the same words stand in another table
-pub sofar-kept : {nws conns classes : List ℕ} (vs : List ℕ) {age : ℕ} → Sofar nws conns classes age →
+sofar-kept : {nws conns classes : List ℕ} (vs : List ℕ) {age : ℕ} → Sofar nws conns classes age →
     take (age * connectionWords) conns ≡ take (age * connectionWords) vs → age * connectionWords ≤ length vs → Sofar nws vs classes age
 sofar-kept {nws} {conns} {classes} vs {age} b e h =
     let old = connections (nodesOf nws) conns age (oldest age conns) (b .table) in
@@ -46,53 +45,44 @@ words-long c = by (c .why)
     by Congruence = refl
     by (byRule n d) = refl
 
-module _ (conns : List ℕ) (age : ℕ) (room : age * connectionWords + connectionWords ≤ length conns) where
-  abbrev slot : Option Connection → List ℕ
-  slot o = slotBy wordsOfConnection (part conns (age * connectionWords) connectionWords) o
+module _ (conns : List ℕ) (age : ℕ) (room : age * connectionWords + connectionWords ≤ length conns) (o : Option Connection) where
+  abbrev put : List ℕ
+  put = splice conns (age * connectionWords) (slotBy wordsOfConnection (part conns (age * connectionWords) connectionWords) o)
 
-  slot-long : (o : Option Connection) → length (slot o) ≡ connectionWords
-  slot-long none = length-part conns (age * connectionWords) connectionWords room
-  slot-long (some c) = words-long c
+  long : length put ≡ length conns
+  long = put-long wordsOfConnection connectionWords conns age room o (λ e _. words-long e)
 
-  abbrev put : Option Connection → List ℕ
-  put o = splice conns (age * connectionWords) (slot o)
+  front : take (age * connectionWords) conns ≡ take (age * connectionWords) put
+  front = put-front wordsOfConnection connectionWords conns age room o (λ e _. words-long e)
 
-  pub put-long : (o : Option Connection) → length (put o) ≡ length conns
-  put-long o = length-splice conns (age * connectionWords) (slot o) (omega (arith, slot-long o))
-
-  pub put-front : (o : Option Connection) → take (age * connectionWords) conns ≡ take (age * connectionWords) (put o)
-  put-front o = sym (take-splice conns (age * connectionWords) (slot o) (omega (arith, slot-long o)) (age * connectionWords) (omega arith))
-
-  -- a call that wrote the slot wrote this table
-  pub put-back : (new : List ℕ) (o : Option Connection) →
+  pub connection-back : (new : List ℕ) →
       new ≡ slotBy wordsOfConnection (midOf (age * connectionWords) (age * connectionWords + connectionWords - age * connectionWords) conns) o →
-      putMid (age * connectionWords) (age * connectionWords + connectionWords - age * connectionWords) conns new ≡ put o
-  put-back new o e =
-      let is : new ≡ slot o = e ∙ ap (λ (l : List ℕ). slotBy wordsOfConnection l o) (lent-part conns (age * connectionWords) connectionWords) in
-      lent-back conns new (age * connectionWords) connectionWords (ap length is ∙ slot-long o) ∙ ap (splice conns (age * connectionWords)) is
+      putMid (age * connectionWords) (age * connectionWords + connectionWords - age * connectionWords) conns new ≡ put
+  connection-back = put-back wordsOfConnection connectionWords conns age room o (λ e _. words-long e)
 
-  -- the entry that was written
-  pub put-entry : (c : Connection) (o : Option Connection) → o ≡ some c → connectionEntry (put o) age ≡ some c
-  put-entry c o e =
-      connection-slot (put o) age (omega (arith, put-long o))
-      ∙ ap (λ (l : List ℕ). connectionEntry l 0)
-      (ap (part (put o) (age * connectionWords)) (sym (slot-long o)) ∙ part-written conns (age * connectionWords) (slot o) (omega (arith, slot-long o)) ∙ ap slot e)
-      ∙ connection-words c
+  -- the table behind it, and its judgement
+  module _ (nws classes : List ℕ) (b : Sofar nws conns classes age) where
+    pub connection-held : Sofar nws put classes age
+    connection-held = sofar-kept put b front (omega (arith, long))
 
-  -- the table behind it
-  module _ (nws classes : List ℕ) (b : Sofar nws conns classes age) (c : Connection) (o : Option Connection) (e : o ≡ some c) where
-    pub put-table : (cs : List Connection) → connectionsTo (nodesOf nws) conns age ≡ good cs →
-        connectionsTo (nodesOf nws) (put o) (suc age) ≡ addConnection (nodesOf nws) cs o
-    put-table cs p =
-        let s = connections-front conns (put o) age (nodesOf nws) (put-front o) (omega arith) (omega (arith, put-long o)) in
-        one-more (addConnection (nodesOf nws)) (connectionEntry (put o)) [] age (sym s ∙ p)
-        ∙ ap (addConnection (nodesOf nws) cs) (put-entry c o e ∙ sym e)
+    same : connectionsTo (nodesOf nws) conns age ≡ connectionsTo (nodesOf nws) put age
+    same = connections-front conns put age (nodesOf nws) front (omega arith) (omega (arith, long))
 
-    -- and its judgement
-    pub put-judged : (cs : List Connection) → connectionsTo (nodesOf nws) conns age ≡ good cs →
-        addConnection (nodesOf nws) (oldest age (put o)) (connectionEntry (put o) age) ≡ addConnection (nodesOf nws) cs o
-    put-judged cs p =
-        let s = sofar-kept (put o) b (put-front o) (omega (arith, put-long o)) in
-        let t = connections-front conns (put o) age (nodesOf nws) (put-front o) (omega arith) (omega (arith, put-long o)) in
-        let same : oldest age (put o) ≡ cs = sym (connections (nodesOf nws) (put o) age cs (sym t ∙ p) .is) in
-        rw (same, put-entry c o e ∙ sym e) refl
+    module _ (c : Connection) (e : o ≡ some c) where
+      entry : connectionEntry put age ≡ o
+      entry =
+          connection-slot put age (omega (arith, long))
+          ∙ ap (λ (l : List ℕ). connectionEntry l 0) (put-slot wordsOfConnection connectionWords conns age room o (λ x _. words-long x) c e)
+          ∙ connection-words c
+          ∙ sym e
+
+      pub connection-table : (cs : List Connection) → connectionsTo (nodesOf nws) conns age ≡ good cs →
+          connectionsTo (nodesOf nws) put (suc age) ≡ addConnection (nodesOf nws) cs o
+      connection-table cs p =
+          one-more (addConnection (nodesOf nws)) (connectionEntry put) [] age (sym same ∙ p) ∙ ap (addConnection (nodesOf nws) cs) entry
+
+      pub connection-judged : (cs : List Connection) → connectionsTo (nodesOf nws) conns age ≡ good cs →
+          addConnection (nodesOf nws) (oldest age put) (connectionEntry put age) ≡ addConnection (nodesOf nws) cs o
+      connection-judged cs p =
+          let older : oldest age put ≡ cs = sym (connections (nodesOf nws) put age cs (sym same ∙ p) .is) in
+          rw (older, entry) refl

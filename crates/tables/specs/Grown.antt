@@ -8,8 +8,9 @@ use Rattle.model.specs.Judged.{Judged, good, judgementOf}
 use Rattle.model.specs.Forest.{cur, nxt}
 use Rattle.model.specs.declared.Connection.{Connection}
 use Rattle.model.specs.Connect.{addConnection}
-use Rattle.model.specs.Frame.{connectionFrame}
-use Rattle.entries.specs.Nodes.{nodesOf}
+use Rattle.model.specs.Node.{Node, addNode}
+use Rattle.model.specs.Frame.{nodeFrame, connectionFrame}
+use Rattle.entries.specs.Nodes.{nodesOf, nodesTo}
 use Rattle.entries.specs.Connections.{connectionIn, connectionsTo}
 use Rattle.connections.specs.Classes.{classesJoined}
 
@@ -17,7 +18,12 @@ pub record Grown {A : Type 0} (j : Judged A) (r : Judgement) (table : Judged A) 
   pub says : r ≡ judgementOf j
   pub holds : r ≡ Taken → table ≡ j
 
--- a connection, over accepted nodes: what the table held and holds
+-- a node: what the table held and holds
+abbrev pub NodesGrown : List ℕ → List ℕ → ℕ → Judgement → List ℕ → Type 0
+NodesGrown before bytes n r after =
+    (ns : List Node) → nodesTo before n ≡ good ns → Grown (addNode ns (nodeFrame bytes)) r (nodesTo after (suc n))
+
+-- a connection, over accepted nodes
 abbrev pub ConnectionsGrown : List ℕ → List ℕ → List ℕ → ℕ → Judgement → List ℕ → Type 0
 ConnectionsGrown nws before bytes age r after =
     (cs : List Connection) → connectionsTo (nodesOf nws) before age ≡ good cs

@@ -21,7 +21,7 @@ use Rattle.connections.proofs.Whole.{sofar-forest, sofar-few, sofar-onward}
 use Rattle.decode.specs.Slot.{slotBy}
 use Rattle.tables.specs.Grown.{ConnectionsGrown}
 use Rattle.tables.proofs.Slots.{Says, says-some, says-none, grown-bad, grown}
-use Rattle.tables.proofs.Connections.{sofar-kept, put-long, put-front, put-back, put-table, put-judged}
+use Rattle.tables.proofs.Connections.{connection-back, connection-held, connection-table, connection-judged}
 use Rattle.tables.proofs.take_connection.Statement.{statement}
 use Rattle.tables.proofs.take_connection.Tie as tie
 
@@ -44,16 +44,14 @@ put s =
 written : (c : tie.After-slice-known3) → lent c ≡ put (at-start c)
 written c =
     let s = at-start c in
-    put-back (s .args .conns .now) (s .args .age) (s .pre .1) _ (connectionFrame (s .args .bytes .now)) (c .before .before .put-connection .ensures .1)
+    connection-back (s .args .conns .now) (s .args .age) (s .pre .1) (connectionFrame (s .args .bytes .now)) _ (c .before .before .put-connection .ensures .1)
 
 held : (c : tie.After-slice-known3) → let a = at-start c .args in Sofar (a .nodes .now) (lent c) (a .classes .now) (a .age)
 held c =
     let s = at-start c in
     let a = s .args in
-    let o = connectionFrame (a .bytes .now) in
     subst (λ (l : List ℕ). Sofar (a .nodes .now) l (a .classes .now) (a .age)) (sym (written c))
-    (sofar-kept (put s) (s .pre .0 .1) (put-front (a .conns .now) (a .age) (s .pre .1) o)
-    (omega (arith, put-long (a .conns .now) (a .age) (s .pre .1) o, s .pre .1)))
+    (connection-held (a .conns .now) (a .age) (s .pre .1) (connectionFrame (a .bytes .now)) (a .nodes .now) (a .classes .now) (s .pre .0 .1))
 
 -- the frame says a connection
 says : (c : tie.Else1) → Says (connectionFrame (at-start (c .before) .args .bytes .now))
@@ -74,9 +72,9 @@ grew c r q cs p =
     let ns = nodesOf (a .nodes .now) in
     grown q (c .judge-entry .ensures)
     (ap (λ (l : List ℕ). addConnection ns (oldest (a .age) l) (connectionEntry l (a .age))) (written k)
-    ∙ put-judged (a .conns .now) (a .age) (s .pre .1) (a .nodes .now) (a .classes .now) (s .pre .0 .1) (y .what) o (y .is) cs p)
+    ∙ connection-judged (a .conns .now) (a .age) (s .pre .1) o (a .nodes .now) (a .classes .now) (s .pre .0 .1) (y .what) (y .is) cs p)
     (ap (λ (l : List ℕ). connectionsTo ns l (suc (a .age))) (written k)
-    ∙ put-table (a .conns .now) (a .age) (s .pre .1) (a .nodes .now) (a .classes .now) (s .pre .0 .1) (y .what) o (y .is) cs p)
+    ∙ connection-table (a .conns .now) (a .age) (s .pre .1) o (a .nodes .now) (a .classes .now) (s .pre .0 .1) (y .what) (y .is) cs p)
 
 mul-at : tie.Need-mul-at
 mul-at c = search needs
@@ -158,11 +156,13 @@ returns-3 c =
     let f = c .before .before in
     let g = f .before .before .before .before in
     let j = g .before .before in
-    let k = j .before .before .before .before in
-    (grew j _ (g .enum-told .given .1), (
-      written k,
-      f .join .ensures ∙ ap (λ (x : Connection). classesJoined (at-start k .args .classes .now) (cur x) (nxt x)) (f .before .before .connection-at .ensures),
-    ))
+    let k = j .before .before .before .before in (
+      grew j _ (g .enum-told .given .1),
+      (
+        written k,
+        f .join .ensures ∙ ap (λ (x : Connection). classesJoined (at-start k .args .classes .now) (cur x) (nxt x)) (f .before .before .connection-at .ensures),
+      ),
+    )
 
 pub take-connection-spec : {M : Type 1} → statement M
 take-connection-spec =
