@@ -42,8 +42,9 @@ put-line-requires : tie.Need-put-line-requires Inv-loop μ-loop
 put-line-requires c κs =
     let e = c .before .before in
     let l = at-loop e in
+    let h = l .loop .inv in
     let p = start l .pre .1 in
-    (lining-say p (l .loop .inv) (omega arith) (e .end-of .ensures), lining-room p (l .loop .inv) (omega arith) (e .end-of .ensures))
+    (lining-say p h (omega arith) (e .end-of .ensures), omega (arith, h .ends, lining-room p h (omega arith) (e .end-of .ensures)))
 
 loop-less : tie.Need-loop-less Inv-loop μ-loop
 loop-less c =

@@ -35,7 +35,7 @@ returns : tie.Need-returns Inv-loop μ-loop
 returns c =
     let k = c .before in
     let l = k .before .before .before in
-    sizing-beyond (l .loop .inv) (omega arith) (k .before .node-at .ensures) (k .node-len .ensures) (c .if1 .taken)
+    sizing-beyond (l .loop .inv) (omega arith) (k .before .node-at .ensures) (k .node-len .ensures) (omega arith)
 
 add-used : tie.Need-add-used Inv-loop μ-loop
 add-used c = omega (arith, c .before .before .before .before .loop .inv .held)
@@ -50,7 +50,7 @@ loop-again : tie.Need-loop-again Inv-loop μ-loop
 loop-again c =
     let k = c .before in
     let l = k .before .before .before in
-    sizing-more (l .loop .inv) (omega arith) (k .before .node-at .ensures) (k .node-len .ensures) (c .if1 .left)
+    sizing-more (l .loop .inv) (omega arith) (k .before .node-at .ensures) (k .node-len .ensures) (omega arith)
 
 returns-2 : tie.Need-returns-2 Inv-loop μ-loop
 returns-2 c = sizing-all (c .before .loop .inv) (omega arith)
