@@ -51,32 +51,27 @@ spell-length o (tree o′ m k s) =
     let t = texts (bytes " ") [] (tree o′ m k s) in
     omega (arith, length-append (operator o) (t ++ bytes ")"), length-append t (bytes ")"))
 
+marked-length : (name : List ℕ) (o r : ℕ) (k : Terms) →
+    length (markText name r (spell (operator o) (texts (bytes " ") [] k)))
+    ≡ length (markBy name r ++ (bracket (count k) ++ operator o)) + length (pushed (count k) (count k) ++ (0 ∷ [])) + length (texts (bytes " ") [] k)
+marked-length name o r k =
+    omega (
+      arith,
+      text-length name r (spell (operator o) (texts (bytes " ") [] k)),
+      spell-length o k,
+      length-append (bracket (count k)) (operator o),
+      length-append (pushed (count k) (count k)) (0 ∷ []),
+      length-append (markBy name r) (bracket (count k) ++ operator o),
+    )
+
 node-length : (o : ℕ) (m : Mark) (k : Terms) →
     length (withMark m (spell (operator o) (texts (bytes " ") [] k)))
     ≡ nodeLen o (count k) (markWord m) (ruleWord m) + length (texts (bytes " ") [] k)
 unfolding nodeLen head
 node-length o unmarked k =
     omega (arith, spell-length o k, length-append (bracket (count k)) (operator o), length-append (pushed (count k) (count k)) [])
-node-length o (marked Forward r) k =
-    let b = bracket (count k) ++ operator o in
-    omega (
-      arith,
-      text-length (markName Forward) r (spell (operator o) (texts (bytes " ") [] k)),
-      spell-length o k,
-      length-append (bracket (count k)) (operator o),
-      length-append (pushed (count k) (count k)) (0 ∷ []),
-      length-append (markBy (markName Forward) r) b,
-    )
-node-length o (marked Backward r) k =
-    let b = bracket (count k) ++ operator o in
-    omega (
-      arith,
-      text-length (markName Backward) r (spell (operator o) (texts (bytes " ") [] k)),
-      spell-length o k,
-      length-append (bracket (count k)) (operator o),
-      length-append (pushed (count k) (count k)) (0 ∷ []),
-      length-append (markBy (markName Backward) r) b,
-    )
+node-length o (marked Forward r) k = marked-length (markName Forward) o r k
+node-length o (marked Backward r) k = marked-length (markName Backward) o r k
 
 -- a row of terms with one byte before or behind each
 pub row-length : (f : Terms) (before behind : List ℕ) → length before + length behind ≡ 1 → (ws : List ℕ) →

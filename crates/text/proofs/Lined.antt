@@ -31,6 +31,9 @@ pub lines-say : (ws : List ℕ) (f : Terms) → Reads ws f → linesOf ws ≡ li
 unfolding linesOf
 lines-say ws f h = ap linesBy (reads-read ws f h)
 
+pub say-terms : (ws : List ℕ) (f : Terms) → read ws ≡ some f → SayTerms ws
+say-terms ws f e = record { terms = f; reads = read-words ws f e }
+
 -- a term in front of others, and alone
 pub lines-put : (t : Term) (s : Terms) → lines (put t s) ≡ text (one t) ++ (bytes "\n" ++ lines s)
 unfolding lines text texts

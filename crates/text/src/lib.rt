@@ -34,17 +34,20 @@ struct Pen {
     top: usize,
 }
 
-// How many bytes a mark has, its two brackets and its rule.
+// What a mark has besides its rule's digits: `(Rewrite=> r`, a space, and the closing bracket.
+const MARK_BYTES: usize = 14;
+
+// How many bytes a mark has.
 fn mark_len(mark: u16, rule: RuleNo) -> usize
     ensures { λ r. ⌜ r ≡ length (markHead mark (rule .0)) + length (pushed mark 0) ⌝ }
 {
     match mark {
         0 => 0,
-        _ => 14 + number_len(rule.0 as u64),
+        _ => MARK_BYTES + number_len(rule.0 as u64),
     }
 }
 
-// How many bytes a node has, the space before it aside.
+// How many bytes a node has, the space before it aside: mark, letter and digits, and two brackets around children.
 fn node_len(n: TreeNode) -> usize
     ensures { λ r. ⌜ r ≡ nodeLen (n .op .0) (n .count) (n .mark) (n .rule .0) ⌝ }
 {
