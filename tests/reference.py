@@ -1,6 +1,6 @@
 """Document 01 once more, in Python: a second reading, against which the proved code is run. Plain and recursive where that is short; terms are walked flat."""
 import sys
-from scope import CHILDREN, DISTANCE, ITEMS, NODES, RULES, TERMS, VARIABLES, WORDS
+from scope import AREA, CHILDREN, DIGITS, DISTANCE, ITEMS, NODES, RULES, TERMS, VARIABLES, WORDS
 
 
 class Refused(Exception):
@@ -29,27 +29,37 @@ def whole_pattern(items):
     return pending == 0
 
 
+def judge_node(n, node):
+    """node n of a table"""
+    op, kids = node
+    if len(kids) > CHILDREN:
+        raise Refused(2)
+    if n >= NODES:
+        raise Refused(3)
+    if any(k >= n for k in kids):
+        raise Refused(4)
+
+
 def judge_nodes(nodes):
-    for n, (op, kids) in enumerate(nodes):
-        if len(kids) > CHILDREN:
-            raise Refused(2)
-        if n >= NODES:
-            raise Refused(3)
-        if any(k >= n for k in kids):
-            raise Refused(4)
+    for n, node in enumerate(nodes):
+        judge_node(n, node)
+
+
+def judge_rule(before, rule):
+    """a rule behind those that are listed before"""
+    number, left, right = rule
+    if not whole_pattern(left) or not whole_pattern(right):
+        raise Refused(2)
+    if len(before) >= RULES:
+        raise Refused(3)
+    bound = {it[1] for it in left if it[0] == 0}
+    if any(number == b[0] for b in before) or any(it[0] == 0 and it[1] not in bound for it in right):
+        raise Refused(5)
 
 
 def judge_rules(rules):
-    seen = set()
-    for i, (number, left, right) in enumerate(rules):
-        if not whole_pattern(left) or not whole_pattern(right):
-            raise Refused(2)
-        if i >= RULES:
-            raise Refused(3)
-        bound = {it[1] for it in left if it[0] == 0}
-        if number in seen or any(it[0] == 0 and it[1] not in bound for it in right):
-            raise Refused(5)
-        seen.add(number)
+    for i, rule in enumerate(rules):
+        judge_rule(rules[:i], rule)
 
 
 class Forest:
@@ -57,6 +67,7 @@ class Forest:
 
     def __init__(self, nodes):
         self.nodes, self.parent, self.cost, self.root = nodes, {}, [], list(range(len(nodes)))
+        self.known = {}                                              # sizes and needed nodes: a joined pair's path never changes
 
     def find(self, n):
         while self.root[n] != n:
@@ -101,6 +112,32 @@ class Forest:
     def distance(self, left, right):
         return sum(self.cost[age] for _, age, _ in self.path(left, right))
 
+    def size(self, n):
+        """the nodes of a node's term"""
+        if ('size', n) not in self.known:
+            self.known['size', n] = 1 + sum(self.size(k) for k in self.nodes[n][1])
+        return self.known['size', n]
+
+    def later(self, left, right):
+        """the nodes of all terms behind the first of a joined pair's flat proof"""
+        if (left, right) in self.known:
+            return self.known[left, right]
+        total = 0
+        for (current, nxt, kind, _, _), _, up in self.path(left, right):
+            a, b = (current, nxt) if up else (nxt, current)
+            if kind == 1:
+                total += self.size(b)
+                continue
+            xs, ys = self.nodes[a][1], self.nodes[b][1]
+            for i, (x, y) in enumerate(zip(xs, ys)):
+                held = 1 + sum(map(self.size, ys[:i])) + sum(map(self.size, xs[i + 1:]))
+                total += self.later(x, y) + self.distance(x, y) * held
+        self.known[left, right] = total
+        return total
+
+    def needed(self, left, right):
+        """the words of a joined pair's flat proof, counted and not written: there can be more than a machine holds"""
+        return 4 * (self.size(left) + self.later(left, right))
 
     def flat_proof(self, left, right):
         """The flat proof of a joined pair: a list of terms (operator, mark, rule, [children])."""
@@ -156,9 +193,8 @@ def judge_tables(nodes, rules, connections):
     return forest
 
 
-def distance(nodes, rules, connections, left, right):
-    forest = judge_tables(nodes, rules, connections)
-    if left >= len(nodes) or right >= len(nodes):
+def measured(forest, left, right):
+    if left >= len(forest.nodes) or right >= len(forest.nodes):
         raise Refused(8)
     if not forest.joined(left, right):
         raise Refused(9)
@@ -168,13 +204,22 @@ def distance(nodes, rules, connections, left, right):
     return d
 
 
-def query(nodes, rules, connections, left, right, area):
-    """The distance and the words of the flat proof, if they fit into an area of so many words."""
-    d = distance(nodes, rules, connections, left, right)
-    words = [w for t in judge_tables(nodes, rules, connections).flat_proof(left, right) for w in term_words(t)]
-    if len(words) > min(area, WORDS):
+def answered(forest, left, right, area):
+    """The distance and the terms of the flat proof, if its words fit into an area of so many."""
+    d = measured(forest, left, right)
+    if forest.needed(left, right) > min(area, WORDS):
         raise Refused(11)
-    return d, words
+    return d, forest.flat_proof(left, right)
+
+
+def distance(nodes, rules, connections, left, right):
+    return measured(judge_tables(nodes, rules, connections), left, right)
+
+
+def query(nodes, rules, connections, left, right, area):
+    """The distance and the words of the flat proof, if they fit."""
+    d, terms = answered(judge_tables(nodes, rules, connections), left, right, area)
+    return d, [w for t in terms for w in term_words(t)]
 
 
 # The strict checker, over flat words: four a node (operator, count, mark, rule).
@@ -297,6 +342,137 @@ def rule_words(rules):
 
 def connection_words(connections):
     return [w for c in connections for w in c]
+
+
+# The program: lines of hexadecimal to what is printed.
+
+def line_bytes(line):
+    if not 0 < len(line) <= DIGITS or len(line) % 2 or any(c not in b'0123456789abcdef' for c in line):
+        raise Refused(1)
+    return bytes.fromhex(line.decode())
+
+
+class Fields:
+    """A frame's bytes, taken from the front; one that is cut is refused by 2."""
+
+    def __init__(self, data):
+        self.data = data
+
+    def take(self, size):
+        if len(self.data) < size:
+            raise Refused(2)
+        front, self.data = self.data[:size], self.data[size:]
+        return int.from_bytes(front, 'big')
+
+    def end(self):
+        if self.data:
+            raise Refused(2)
+
+
+def node_frame(fields):
+    op, count = fields.take(2), fields.take(1)
+    return op, [fields.take(2) for _ in range(count)]
+
+
+def side_frame(fields):
+    """one pattern: its items up to the one with which it is whole"""
+    items, pending = [], 1
+    while pending:
+        kind = fields.take(1)
+        if kind > 1 or len(items) == ITEMS:
+            raise Refused(2)
+        items.append((0, fields.take(1)) if kind == 0 else (1, fields.take(2), fields.take(1)))
+        pending += (items[-1][2] if kind else 0) - 1
+    return items
+
+
+def words_frame(fields):
+    words = []
+    while fields.data or not words:
+        words += [fields.take(size) for size in (2, 1, 1, 2)]
+    return words
+
+
+class Run:
+    def __init__(self):
+        self.kind, self.nodes, self.rules, self.forest, self.words, self.printed = 0, [], [], None, [], []
+
+    def say(self, line):
+        self.printed.append(line + '\n')
+
+    def line(self, number, line):
+        """one line of the input; Refused where the run stops"""
+        fields = Fields(line_bytes(line))
+        kind = fields.take(1)
+        if not 1 <= kind <= 6 or (kind < self.kind and (self.kind, kind) != (6, 5)):
+            raise Refused(2)
+        self.kind = kind
+        if kind >= 3 and self.forest is None:
+            self.forest = Forest(self.nodes)
+        if kind == 1:
+            node = node_frame(fields)
+            fields.end()
+            judge_node(len(self.nodes), node)
+            self.nodes.append(node)
+        elif kind == 2:
+            rule = fields.take(2), side_frame(fields), side_frame(fields)
+            fields.end()
+            judge_rule(self.rules, rule)
+            self.rules.append(rule)
+        elif kind == 3:
+            connection = tuple(fields.take(size) for size in (2, 2, 1, 2, 1))
+            fields.end()
+            self.forest.add(connection)
+        elif kind == 4:
+            pair = fields.take(2), fields.take(2)
+            fields.end()
+            self.query(number, *pair)
+        elif kind == 5:
+            words = words_frame(fields)
+            if len(self.words) + len(words) > AREA:
+                raise Refused(11)
+            self.words += words
+        else:
+            fields.end()
+            self.verdict()
+
+    def query(self, number, left, right):
+        try:
+            d, terms = answered(self.forest, left, right, AREA)
+        except Refused as refused:
+            self.say(f'refused {refused.number} line {number}')
+            return
+        self.say(f'distance {d}')
+        for term in terms:
+            self.say(term_text(term))
+
+    def verdict(self):
+        try:
+            self.say(f'accepted {check(self.rules, self.words)}')
+        except Refused as refused:
+            self.say(f'rejected {refused.number} term {refused.place}')
+        self.words = []
+
+    def whole(self, data):
+        *lines, rest = data.split(b'\n')
+        number = 0
+        try:
+            for number, line in enumerate(lines, 1):
+                self.line(number, line)
+            number = len(lines) + 1
+            if rest:
+                raise Refused(1)
+            if self.kind == 5:
+                raise Refused(2)
+        except Refused as refused:
+            self.say(f'refused {refused.number} line {number}')
+
+
+def output(data):
+    """What the program prints for an input, both in bytes."""
+    run = Run()
+    run.whole(data)
+    return ''.join(run.printed).encode()
 
 
 sys.setrecursionlimit(10000)
