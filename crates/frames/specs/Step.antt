@@ -1,11 +1,13 @@
 -- What a frame comes to: the turn of the run, on the counts and the lent tables.
-use Prim.Native.Nat.{ℕ}
+use Prim.Native.Nat.{ℕ, zero, suc}
 use mathlib.Core.List.{List}
 use mathlib.Core.Path.{_≡_}
 use lib.ListN.{length, take}
 use Rattle.model.specs.Node.{addNode}
-use Rattle.model.specs.Frame.{nodeFrame}
-use Rattle.model.specs.Run.{State, Turn, go, stop, nodeTurn}
+use Rattle.model.specs.Connect.{addConnection}
+use Rattle.model.specs.Frame.{nodeFrame, connectionFrame, wordsFrame}
+use Rattle.model.specs.Run.{State, Turn, go, stop, nodeTurn, connectionTurn, opened}
+use Rattle.connections.specs.Classes.{upTo}
 use Rattle.frames.specs.declared.Counts.{Counts}
 use Rattle.frames.specs.declared.Step.{Step}
 use Rattle.frames.specs.declared.Step.the-variants.{Goes, Refuses}
@@ -24,3 +26,18 @@ abbrev pub NodeStep : Counts → List ℕ → List ℕ → Step → List ℕ →
 NodeStep k bytes before r after =
     (rws cws classes area room : List ℕ) (s : State) → Stands k before rws cws classes area s → k .connections ≡ 0
     → StepIs (nodeTurn s (addNode (s .tables .nodes) (nodeFrame bytes))) r after rws cws classes area room
+
+-- the classes that a connection is judged by
+abbrev pub classesFor : ℕ → List ℕ → List ℕ
+classesFor zero classes = upTo (length classes)
+classesFor (suc age) classes = classes
+
+abbrev pub ConnectionStep : Counts → List ℕ → List ℕ → List ℕ → List ℕ → Step → List ℕ → List ℕ → Type 0
+ConnectionStep k bytes nws before classes r after tops =
+    (rws area room : List ℕ) (s : State) → Stands k nws rws before classes area s
+    → StepIs (connectionTurn s (addConnection (s .tables .nodes) (s .tables .conns) (connectionFrame bytes))) r nws rws after tops area room
+
+abbrev pub WordsStep : Counts → List ℕ → List ℕ → Step → List ℕ → Type 0
+WordsStep k bytes before r after =
+    (nws rws cws classes room : List ℕ) (s : State) → Stands k nws rws cws classes before s
+    → StepIs (opened s (wordsFrame bytes)) r nws rws cws classes after room

@@ -1,5 +1,5 @@
 -- What one entry more comes to: the judgement on it, and the table behind it where it was taken.
-use Prim.Native.Nat.{ℕ, suc}
+use Prim.Native.Nat.{ℕ, suc, _+_}
 use mathlib.Core.List.{List}
 use mathlib.Core.Path.{_≡_}
 use Rattle.model.specs.declared.Judgement.{Judgement}
@@ -12,7 +12,7 @@ use Rattle.model.specs.Node.{Node, addNode}
 use Rattle.model.specs.Frame.{nodeFrame, connectionFrame}
 use Rattle.entries.specs.Nodes.{nodesOf, nodesTo}
 use Rattle.entries.specs.Connections.{connectionIn, connectionsTo}
-use Rattle.connections.specs.Classes.{classesJoined}
+use Rattle.connections.specs.Classes.{classesJoined, Sofar}
 
 pub record Grown {A : Type 0} (j : Judged A) (r : Judgement) (table : Judged A) : Type 0 where
   pub says : r ≡ judgementOf j
@@ -33,3 +33,8 @@ ConnectionsGrown nws before bytes age r after =
 abbrev pub classesAfter : Judgement → List ℕ → ℕ → List ℕ → List ℕ
 classesAfter Taken conns age ws = classesJoined ws (cur (connectionIn conns age)) (nxt (connectionIn conns age))
 classesAfter (Faulty n) conns age ws = ws
+
+-- and they are the classes of the connections behind it
+abbrev pub Onward : Judgement → List ℕ → List ℕ → List ℕ → ℕ → Type 0
+Onward Taken nws conns classes age = Sofar nws conns classes (age + 1)
+Onward (Faulty n) nws conns classes age = Unit {0}

@@ -20,7 +20,7 @@ ghost use Rattle.layouts.specs.Words.{wordsOfNode, wordsOfConnection};
 ghost use Rattle.entries.specs.Nodes.{NodesWhole};
 ghost use Rattle.connections.specs.Classes.{Sofar};
 ghost use Rattle.decode.specs.Slot.{slotBy};
-ghost use Rattle.tables.specs.Grown.{NodesGrown, ConnectionsGrown, classesAfter};
+ghost use Rattle.tables.specs.Grown.{NodesGrown, ConnectionsGrown, Onward, classesAfter};
 
 // A node behind the first `n`.
 pub fn take_node(nodes: &mut [u16], n: usize, bytes: &[u8]) -> Judgement
@@ -49,6 +49,7 @@ pub fn take_connection(
     ensures { λ r. ⌜ ConnectionsGrown (now (nodes .entry)) (now (conns .entry)) (now (bytes .entry)) age r (now (conns .exit)) ⌝ }
     ensures { λ _. ⌜ now (conns .exit) ≡ splice (now (conns .entry)) (age * connectionWords) (slotBy wordsOfConnection (part (now (conns .entry)) (age * connectionWords) connectionWords) (connectionFrame (now (bytes .entry)))) ⌝ }
     ensures { λ r. ⌜ now (classes .exit) ≡ classesAfter r (now (conns .exit)) age (now (classes .entry)) ⌝ }
+    ensures { λ r. ⌜ Onward r (now (nodes .entry)) (now (conns .exit)) (now (classes .exit)) age ⌝ }
 {
     let at = age * CONNECTION_WORDS;
     let end = at + CONNECTION_WORDS;
