@@ -2,4 +2,9 @@ pub mod Slots
 pub mod Connections
 pub mod Asked
 pub mod Nodes
+pub mod Parts
+pub mod Found
+pub mod Written
+pub mod Rules
+pub mod RuleWords
 pub mod Only

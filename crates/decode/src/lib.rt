@@ -6,20 +6,26 @@ use model::CHILDREN_AT;
 use model::COUNT_AT;
 use model::FLAT_WORDS;
 use model::FORWARD_AT;
+use model::ITEM_LIMIT;
+use model::ITEM_WORDS;
+use model::LEFT_AT;
 use model::NEXT_AT;
 use model::NodeNo;
+use model::RIGHT_AT;
+use model::VARIABLE_LIMIT;
 use model::WHY_AT;
 use model::wide;
 ghost use mathlib.Core.Path.{_≡_};
 ghost use mathlib.Core.Option.{some};
-ghost use Prim.Native.Nat.{_+_, _≤_, _<_};
-ghost use lib.ListN.{length, getD};
+ghost use Prim.Native.Nat.{_+_, _*_, _≤_, _<_};
+ghost use lib.ListN.{length, getD, drop, replicate};
 ghost use Rattle.model.specs.Limits.{flatWords};
-ghost use Rattle.model.specs.Tables.{nodeWords, connectionWords, whyOf};
-ghost use Rattle.model.specs.Frame.{two, nodeFrame, connectionFrame, queryFrame, wordsFrame};
+ghost use Rattle.model.specs.Tables.{nodeWords, itemWords, ruleWords, connectionWords, whyOf};
+ghost use Rattle.model.specs.Frame.{two, nodeFrame, ruleFrame, connectionFrame, queryFrame, wordsFrame};
 ghost use Rattle.laws.specs.Area.{splice};
-ghost use Rattle.layouts.specs.Words.{wordsOfNode, wordsOfConnection};
+ghost use Rattle.layouts.specs.Words.{wordsOfNode, slotsOf, wordsOfRule, wordsOfConnection};
 ghost use Rattle.decode.specs.Slot.{isThere, slotBy};
+ghost use Rattle.decode.specs.Sides.{noPart, partOf, sideFound, sideOf, itemsOf, HasItems, TwoSides, ruleSlot};
 ghost use Rattle.decode.specs.Asked.{pairOf, offeredOf, Holds, sixWords};
 
 // How many bytes a node's frame has before its children, a connection's, a query's, and a node of an offered proof.
@@ -40,6 +46,20 @@ pub enum Pair {
 // How many words a frame of an offered proof holds.
 pub enum Offered {
     Words(usize),
+    Wrong,
+}
+
+// An item of a rule's frame: how many bytes it has, 0 where there is none, and its three words.
+struct Part {
+    size: usize,
+    kind: u16,
+    field: u16,
+    count: u16,
+}
+
+// A side of a rule's frame: how many items it has, and where they end.
+enum Side {
+    Items(usize, usize),
     Wrong,
 }
 
@@ -96,6 +116,154 @@ pub fn put_node(bytes: &[u8], slot: &mut [u16]) -> bool
         at += 2;
         k += 1;
     }
+    true
+}
+
+// No item.
+fn no_part() -> Part
+    ensures { λ r. ⌜ r ≡ noPart ⌝ }
+{
+    Part {
+        size: 0,
+        kind: 0,
+        field: 0,
+        count: 0,
+    }
+}
+
+// The item that starts at a place, by its first byte.
+fn part_at(bytes: &[u8], at: usize) -> Part
+    requires { ⌜ at ≤ length (now bytes) ⌝ }
+    ensures { λ r. ⌜ r ≡ partOf (drop at (now (bytes .entry))) ⌝ }
+{
+    let left = bytes.len() - at;
+    if left == 0 {
+        return no_part();
+    }
+    let kind = bytes[at];
+    match kind {
+        0 => {
+            if left < 2 {
+                return no_part();
+            }
+            let x = wide_byte(bytes[at + 1]);
+            if wide(x) < VARIABLE_LIMIT {
+                return Part {
+                    size: 2,
+                    kind: 0,
+                    field: x,
+                    count: 0,
+                };
+            }
+            no_part()
+        }
+        1 => {
+            if left < 4 {
+                return no_part();
+            }
+            let count = wide_byte(bytes[at + 3]);
+            if count <= CHILD_LIMIT {
+                return Part {
+                    size: 4,
+                    kind: 1,
+                    field: word_at(bytes, at + 1),
+                    count: count,
+                };
+            }
+            no_part()
+        }
+        _ => no_part(),
+    }
+}
+
+// How many items the side that starts at a place has, and where they end: each item that is read takes one from the patterns still
+// to be read, and adds its children.
+fn side_at(bytes: &[u8], at: usize) -> Side
+    requires { ⌜ at ≤ length (now bytes) ⌝ }
+    ensures { λ r. ⌜ r ≡ sideOf (length (now (bytes .entry))) (sideFound (now (bytes .entry)) at) ⌝ }
+{
+    let mut pos = at;
+    let mut n: usize = 0;
+    let mut pending: usize = 1;
+    while 0 < pending {
+        if n >= ITEM_LIMIT {
+            return Side::Wrong;
+        }
+        let part = part_at(bytes, pos);
+        let size = part.size;
+        if size == 0 {
+            return Side::Wrong;
+        }
+        pos += size;
+        pending = pending - 1 + wide(part.count);
+        n += 1;
+    }
+    Side::Items(n, pos)
+}
+
+// Writes the words of a side's items from a place of the slot on.
+fn put_items(bytes: &[u8], at: usize, items: usize, slot: &mut [u16], place: usize)
+    requires { ⌜ (at ≤ length (now bytes)) × HasItems (now bytes) at items × (place + itemWords * items ≤ length (now slot)) ⌝ }
+    ensures { λ _. ⌜ now (slot .exit) ≡ splice (now (slot .entry)) place (slotsOf (itemsOf (sideFound (now (bytes .entry)) at))) ⌝ }
+{
+    let mut pos = at;
+    let mut to = place;
+    let mut left = items;
+    while 0 < left {
+        let part = part_at(bytes, pos);
+        slot[to] = part.kind;
+        slot[to + 1] = part.field;
+        slot[to + 2] = part.count;
+        pos += part.size;
+        to += ITEM_WORDS;
+        left -= 1;
+    }
+}
+
+// Sets every word of a slot to zero.
+fn clear(slot: &mut [u16])
+    ensures { λ _. ⌜ now (slot .exit) ≡ replicate (length (now (slot .entry))) 0 ⌝ }
+{
+    let mut i: usize = 0;
+    while i < slot.len() {
+        slot[i] = 0;
+        i += 1;
+    }
+}
+
+// Writes a rule's words: its number, how many items each side has, and the items; slots that its counts leave unused are zero.
+fn write_rule(bytes: &[u8], left: usize, middle: usize, right: usize, slot: &mut [u16])
+    requires { ⌜ TwoSides (now bytes) left middle right × (length (now slot) ≡ ruleWords) ⌝ }
+    ensures { λ _. ⌜ now (slot .exit) ≡ ruleSlot (two (getD (now (bytes .entry)) 0 0) (getD (now (bytes .entry)) 1 0)) (itemsOf (sideFound (now (bytes .entry)) 2)) (itemsOf (sideFound (now (bytes .entry)) middle)) ⌝ }
+{
+    clear(slot);
+    slot[0] = word_at(bytes, 0);
+    slot[1] = left as u16;
+    slot[2] = right as u16;
+    put_items(bytes, 2, left, slot, LEFT_AT);
+    put_items(bytes, middle, right, slot, RIGHT_AT);
+}
+
+// 02: a rule. Its two sides are found before anything is written.
+pub fn put_rule(bytes: &[u8], slot: &mut [u16]) -> bool
+    requires { ⌜ length (now slot) ≡ ruleWords ⌝ }
+    ensures { λ r. ⌜ r ≡ isThere (ruleFrame (now (bytes .entry))) ⌝ }
+    ensures { λ _. ⌜ now (slot .exit) ≡ slotBy wordsOfRule (now (slot .entry)) (ruleFrame (now (bytes .entry))) ⌝ }
+{
+    let n = bytes.len();
+    if n < 2 {
+        return false;
+    }
+    let Side::Items(left, middle) = side_at(bytes, 2) else {
+        return false;
+    };
+    let Side::Items(right, end) = side_at(bytes, middle) else {
+        return false;
+    };
+    if end != n {
+        return false;
+    }
+    write_rule(bytes, left, middle, right, slot);
     true
 }
 

@@ -120,12 +120,12 @@ unfolding sideAt side
 side-words q s pre post =
     rw (le-leb (length (items q)) itemLimit (s .few), slots-items (items q) pre post, items-read q (s .narrow), eq-eqb (countP q) 1 (s .counted), le-leb (length (items q)) itemLimit (s .few)) refl
 
-slots-length : (is : List Item) → length (slotsOf is) ≡ itemWords * length is
+pub slots-length : (is : List Item) → length (slotsOf is) ≡ itemWords * length is
 unfolding slotsOf
 slots-length [] = refl
 slots-length (i ∷ is) = omega (arith, slots-length is)
 
-padded-length : (size : ℕ) (ws : List ℕ) → length ws ≤ size → length (padded size ws) ≡ size
+pub padded-length : (size : ℕ) (ws : List ℕ) → length ws ≤ size → length (padded size ws) ≡ size
 padded-length size ws h = omega (arith, length-append ws (replicate (size - length ws) 0), length-replicate {A = ℕ} (size - length ws) 0)
 
 side-length : (q : Patterns) → IsSide q → length (padded sideWords (slotsOf (items q))) ≡ sideWords
