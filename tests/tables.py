@@ -120,6 +120,21 @@ def many_small(leaves, back=7):
     return nodes, links + [congruent(last + 1, last + 2)], last + 1, last + 2
 
 
+def beside_free(steps, depth, free):
+    """A path of so many congruences, in each of them so many nested, each of eight pairs of children: one pair is rewritten, and the other seven
+    are the ends of a long chain of distance 0, which is climbed for each of them."""
+    nodes, a, b = [(1, []), (2, [])] + [(1, [])] * free, 2, free + 1
+    links = [by_rule(0, 1)] + [congruent(i, i + 1) for i in range(a, b)]
+    x, y = 0, 1
+    for _ in range(depth):
+        nodes += [(5, [x] + [a] * 7), (5, [y] + [b] * 7)]
+        x, y = len(nodes) - 2, len(nodes) - 1
+        links.append(congruent(x, y))
+    first = len(nodes)
+    nodes += [(5, [y] + [b] * 7) if i % 2 else (5, [x] + [a] * 7) for i in range(steps + 1)]
+    return nodes, links + [congruent(i, i + 1) for i in range(first, first + steps)], first, first + steps
+
+
 def random_table(rng):
     """small tables in which most entries are good"""
     nodes = []

@@ -21,13 +21,8 @@ use Rattle.entries.specs.Nodes.{NodesWhole, nodesOf}
 use Rattle.entries.specs.Connections.{connectionIn, oldest, connectionsTo}
 use Rattle.entries.proofs.Nodes.{length-nodes}
 use Rattle.entries.proofs.Connections.{Connections, connections, length-oldest}
-use Rattle.connections.specs.Classes.{upTo, classesJoined, Classes}
+use Rattle.connections.specs.Classes.{upTo, classesJoined, Sofar}
 use Rattle.connections.proofs.Classes.{classes-none, classes-more}
-
--- the connections up to an age were accepted, and the classes are theirs
-pub record Sofar (nws conns classes : List ℕ) (age : ℕ) : Type 0 where
-  pub table : connectionsTo (nodesOf nws) conns age ≡ good (oldest age conns)
-  pub theirs : Classes (oldest age conns) (length nws / nodeWords) classes
 
 pub sofar-none : (nws conns classes : List ℕ) → classes ≡ upTo (length nws / nodeWords) → Sofar nws conns classes 0
 unfolding entries oldest

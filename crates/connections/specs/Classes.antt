@@ -9,13 +9,14 @@ use lib.Dec.{eqb}
 use lib.ListN.{length, getD}
 use Rattle.model.specs.declared.Connection.{Connection}
 use Rattle.model.specs.declared.Judgement.{Judgement}
-use Rattle.model.specs.Judged.{judgementOf}
+use Rattle.model.specs.Judged.{good, judgementOf}
 use Rattle.model.specs.Forest.{root}
 use Rattle.model.specs.Term.{sameOp}
 use Rattle.model.specs.Connect.{pairsJoined, addConnection}
 use Rattle.model.specs.Tables.{nodeWords}
 use Rattle.paths.specs.Hangs.{Forest}
 use Rattle.entries.specs.Nodes.{childrenIn, nodesOf}
+use Rattle.entries.specs.Connections.{connectionsTo, oldest}
 
 -- the first n numbers: where there is no connection, each node is a class of its own
 unfoldable pub upTo : ℕ → List ℕ
@@ -47,3 +48,8 @@ pub record Classes (cs : List Connection) (n : ℕ) (ws : List ℕ) : Type 0 whe
 abbrev pub JudgedBy : List ℕ → List ℕ → Connection → Judgement → Type 0
 JudgedBy nws ws c r =
     (cs : List Connection) → Forest cs → Classes cs (length nws / nodeWords) ws → r ≡ judgementOf (addConnection (nodesOf nws) cs (some c))
+
+-- the connections up to an age were accepted, and the classes are theirs
+pub record Sofar (nws conns classes : List ℕ) (age : ℕ) : Type 0 where
+  pub table : connectionsTo (nodesOf nws) conns age ≡ good (oldest age conns)
+  pub theirs : Classes (oldest age conns) (length nws / nodeWords) classes

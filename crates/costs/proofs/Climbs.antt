@@ -12,7 +12,8 @@ use Rattle.model.specs.Forest.{cur, root, joined, Parent, top, below, parentOf}
 use Rattle.paths.specs.Hangs.{nextOf, depth, Forest}
 use Rattle.paths.specs.Meet.{topOf, meetOf}
 use Rattle.paths.specs.declared.Meeting.the-variants.{At, Nowhere}
-use Rattle.paths.proofs.Laws.{no-parent, parent-case, climb-left, joined-yes, walk-self}
+use Rattle.paths.proofs.Laws.{no-parent, parent-case, joined-yes}
+use Rattle.paths.proofs.Walks.{climb-left, walk-self}
 use Rattle.paths.proofs.Joined.{joined-root}
 use Rattle.paths.proofs.Places.{high, low, place}
 use Rattle.paths.proofs.Ways.{climbBy, root-climb, depth-climb, hop, ups, downs}

@@ -1,6 +1,6 @@
 -- What accepted tables give to whoever pays: each connection's nodes, and a congruence's children, joined by the older connections.
 use Prim.Native.Nat.{ℕ, _*_, _<_}
-use mathlib.Core.Path.{_≡_, refl, _∙_, sym}
+use mathlib.Core.Path.{_≡_, refl, _∙_, ap, sym}
 use mathlib.Core.List.{List, _++_}
 use lib.ListN.{drop, length}
 use native.Mathlib.Omega.{arith}
@@ -10,17 +10,17 @@ use Rattle.model.specs.declared.RuleNo.{RuleNo}
 use Rattle.model.specs.declared.Justification.{Justification}
 use Rattle.model.specs.declared.Justification.the-variants.{Rule as byRule, Congruence}
 use Rattle.model.specs.Node.{Node, kidsOf}
-use Rattle.model.specs.Forest.{cur, nxt, costBy, sumPairs}
+use Rattle.model.specs.Forest.{cur, nxt, root, costBy, sumPairs}
 use Rattle.paths.specs.Hangs.{Paired}
 use Rattle.paths.proofs.Accept.{kin}
 use Rattle.entries.specs.Connections.{Supported, connectionIn, oldest}
-use Rattle.entries.specs.Nodes.{childrenIn, firstNodes}
+use Rattle.entries.specs.Nodes.{childIn, childrenIn, countIn, firstNodes}
 use Rattle.entries.proofs.Nodes.{children-in}
 use Rattle.entries.proofs.Support.{current-here, next-here, sound-here, twins}
 use Rattle.forest.specs.Rows.{Rooted, rowWords, rowsOf, tableWords}
 use Rattle.forest.proofs.Older.{kept}
 use Rattle.forest.proofs.Rooted.{full-climbs, full-free}
-use Rattle.costs.specs.Costs.{Alike, Charged, Payable, held, nodesIn}
+use Rattle.costs.specs.Costs.{Alike, Charged, Joins, Payable, held, nodesIn}
 
 module _ {nodes conns : List ℕ} {count : ℕ} (s : Supported nodes (nodesIn nodes) conns count) (a : ℕ) (h : a < count) where
   abbrev c : Connection
@@ -68,3 +68,16 @@ by-children nodes d why l r p q w =
 pub charged-full : {cs : List Connection} {n : ℕ} (old : List ℕ) {rows : List ℕ} → Rooted n cs → length old ≡ tableWords →
     rows ≡ rowsOf cs n ++ drop (n * rowWords) old → Charged cs n rows
 charged-full old r s e = rw e record { climbs = full-climbs r old s; small = λ a p. omega (arith, full-free r old s a p) }
+
+-- a pair of children of two nodes that are alike: joined, so that their path is measured
+pub pair-joins : {nodes rows : List ℕ} {a b i x y : ℕ} (p : Alike nodes rows a b) → i < countIn nodes a → x ≡ childIn nodes a i → y ≡ childIn nodes b i →
+    Joins rows x y
+pair-joins {i = i} p h x y =
+    record {
+      conns = p .conns;
+      nodes = _;
+      charged = p .charged;
+      left-in = omega (arith, x, p .left-in i h);
+      right-in = omega (arith, y, p .right-in i h);
+      same = ap (root (p .conns)) x ∙ p .joins i h ∙ ap (root (p .conns)) (sym y);
+    }

@@ -1,4 +1,5 @@
 pub mod Slots
 pub mod Connections
 pub mod Asked
+pub mod Nodes
 pub mod Only

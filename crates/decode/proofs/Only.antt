@@ -6,12 +6,17 @@ use contract.Lifetimes.{Lfts}
 use Rattle.decode.specs.declared.Pair.{Pair}
 use Rattle.decode.specs.declared.Offered.{Offered}
 use Rattle.decode.proofs.Asked.{one-words}
+use Rattle.decode.proofs.put_node.Reads as put-node
 use Rattle.decode.proofs.put_connection.Reads as put-connection
 use Rattle.decode.proofs.pair_of.Reads as pair-of
 use Rattle.decode.proofs.words_in.Reads as words-in
 use Rattle.decode.proofs.put_words.Reads as put-words
 
 -- the result, and the slot, its second argument
+put-node-only : (κs : Lfts 2) (a s s′ : _) (r r′ : Bool) → put-node.Post κs a r s → put-node.Post κs a r′ s′ →
+    (r ≡ r′) × (now (s .1 .0) ≡ now (s′ .1 .0))
+put-node-only κs a s s′ r r′ p q = (p .0 ∙ sym (q .0), p .1 ∙ sym (q .1))
+
 put-connection-only : (κs : Lfts 2) (a s s′ : _) (r r′ : Bool) → put-connection.Post κs a r s → put-connection.Post κs a r′ s′ →
     (r ≡ r′) × (now (s .1 .0) ≡ now (s′ .1 .0))
 put-connection-only κs a s s′ r r′ p q = (p .0 ∙ sym (q .0), p .1 ∙ sym (q .1))

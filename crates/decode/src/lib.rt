@@ -1,24 +1,30 @@
 // A frame's bytes, behind the byte of its kind, turned into what it says: an entry written into a slot of its table, a pair of nodes,
 // or the words of an offered proof. A frame that says none of its kind leaves the slot as it was.
 use model::BY_RULE_AT;
+use model::CHILD_LIMIT;
+use model::CHILDREN_AT;
+use model::COUNT_AT;
 use model::FLAT_WORDS;
 use model::FORWARD_AT;
 use model::NEXT_AT;
 use model::NodeNo;
 use model::WHY_AT;
+use model::wide;
 ghost use mathlib.Core.Path.{_≡_};
 ghost use mathlib.Core.Option.{some};
 ghost use Prim.Native.Nat.{_+_, _≤_, _<_};
 ghost use lib.ListN.{length, getD};
 ghost use Rattle.model.specs.Limits.{flatWords};
-ghost use Rattle.model.specs.Tables.{connectionWords, whyOf};
-ghost use Rattle.model.specs.Frame.{two, connectionFrame, queryFrame, wordsFrame};
+ghost use Rattle.model.specs.Tables.{nodeWords, connectionWords, whyOf};
+ghost use Rattle.model.specs.Frame.{two, nodeFrame, connectionFrame, queryFrame, wordsFrame};
 ghost use Rattle.laws.specs.Area.{splice};
-ghost use Rattle.layouts.specs.Words.{wordsOfConnection};
+ghost use Rattle.layouts.specs.Words.{wordsOfNode, wordsOfConnection};
 ghost use Rattle.decode.specs.Slot.{isThere, slotBy};
 ghost use Rattle.decode.specs.Asked.{pairOf, offeredOf, Holds, sixWords};
 
-// How many bytes a connection's frame has, and a query's, and a node of an offered proof.
+// How many bytes a node's frame has before its children, a connection's, a query's, and a node of an offered proof.
+const NODE_HEAD: usize = 3;
+
 const CONNECTION_BYTES: usize = 8;
 
 const QUERY_BYTES: usize = 4;
@@ -50,6 +56,47 @@ fn word_at(bytes: &[u8], at: usize) -> u16
     ensures { λ r. ⌜ r ≡ two (getD (now (bytes .entry)) at 0) (getD (now (bytes .entry)) (at + 1) 0) ⌝ }
 {
     wide_byte(bytes[at]) * 256 + wide_byte(bytes[at + 1])
+}
+
+// The same, or zero behind the end.
+fn child_at(bytes: &[u8], at: usize) -> u16
+    requires { ⌜ (at < length (now bytes) → at + 1 < length (now bytes)) ⌝ }
+    ensures { λ r. ⌜ r ≡ two (getD (now (bytes .entry)) at 0) (getD (now (bytes .entry)) (at + 1) 0) ⌝ }
+{
+    if at < bytes.len() {
+        word_at(bytes, at)
+    } else {
+        0
+    }
+}
+
+// 01: a node. Slots that its count leaves unused are zero.
+pub fn put_node(bytes: &[u8], slot: &mut [u16]) -> bool
+    requires { ⌜ length (now slot) ≡ nodeWords ⌝ }
+    ensures { λ r. ⌜ r ≡ isThere (nodeFrame (now (bytes .entry))) ⌝ }
+    ensures { λ _. ⌜ now (slot .exit) ≡ slotBy wordsOfNode (now (slot .entry)) (nodeFrame (now (bytes .entry))) ⌝ }
+{
+    let n = bytes.len();
+    if n < NODE_HEAD {
+        return false;
+    }
+    let count = wide_byte(bytes[2]);
+    if count > CHILD_LIMIT {
+        return false;
+    }
+    if n != NODE_HEAD + 2 * wide(count) {
+        return false;
+    }
+    slot[0] = word_at(bytes, 0);
+    slot[COUNT_AT] = count;
+    let mut at = NODE_HEAD;
+    let mut k = CHILDREN_AT;
+    while k < slot.len() {
+        slot[k] = child_at(bytes, at);
+        at += 2;
+        k += 1;
+    }
+    true
 }
 
 // Whether a connection's last three fields are in their sets, by the kind: 0 congruence, 1 rule; rule and forward both 0 for

@@ -8,7 +8,7 @@ use mathlib.Core.Logic.{⊎-elim}
 use Rattle.model.specs.declared.Connection.{Connection}
 use Rattle.model.specs.Forest.{cur, nxt, root, walk}
 use Rattle.paths.specs.Hangs.{Loose}
-use Rattle.paths.proofs.Laws.{split, walk-old, walk-up, walk-down}
+use Rattle.paths.proofs.Walks.{split, walk-old, walk-up, walk-down}
 
 module _ {A B : Type 0} (a : A) (_·_ : A → A → A) (f : List Connection → (ℕ → ℕ → A) → Connection → Bool → A)
     (b : B) (_∘_ : B → B → B) (g : List Connection → (ℕ → ℕ → B) → Connection → Bool → B)

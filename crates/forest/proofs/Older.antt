@@ -10,7 +10,8 @@ use Rattle.model.specs.declared.Connection.{Connection}
 use Rattle.model.specs.Forest.{cur, root, walk, below, parentOf, top}
 use Rattle.paths.specs.Hangs.{nextOf, depth, Forest}
 use Rattle.entries.specs.Connections.{connectionIn, oldest}
-use Rattle.paths.proofs.Laws.{parent-new, parent-old, no-parent, depth-old, root-old, walk-old}
+use Rattle.paths.proofs.Laws.{parent-new, parent-old, no-parent, depth-old, root-old}
+use Rattle.paths.proofs.Walks.{walk-old}
 use Rattle.paths.proofs.Places.{Place, high, low, place, next-below}
 use Rattle.paths.proofs.Ways.{climbBy}
 

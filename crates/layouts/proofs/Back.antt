@@ -60,12 +60,12 @@ node-words e h =
     refl
 
 -- and a node's frame says no more children
-pub node-back : (bs : List ℕ) (e : Node) → nodeFrame bs ≡ some e → nodeEntry (wordsOfNode e) 0 ≡ some e
+pub node-few : (bs : List ℕ) (e : Node) → nodeFrame bs ≡ some e → length (e .kids) ≤ childLimit
 unfolding nodeFrame
-node-back [] e p = absurd (none-some p)
-node-back (a ∷ []) e p = absurd (none-some p)
-node-back (a ∷ b ∷ []) e p = absurd (none-some p)
-node-back (a ∷ b ∷ c ∷ ks) e p = node-words e (few (twos ks) p)
+node-few [] e p = absurd (none-some p)
+node-few (a ∷ []) e p = absurd (none-some p)
+node-few (a ∷ b ∷ []) e p = absurd (none-some p)
+node-few (a ∷ b ∷ c ∷ ks) e p = few (twos ks) p
   where
     few-if : (o : ℕ) (ns : List ℕ) (s t : Bool) → eqb (length ns) c ≡ s → leb c childLimit ≡ t
         → onlyIf (s && t) (some (record { op = o; kids = ns })) ≡ some e → length (e .kids) ≤ childLimit
@@ -79,6 +79,14 @@ node-back (a ∷ b ∷ c ∷ ks) e p = node-words e (few (twos ks) p)
     few : (o : Option (List ℕ)) → nodeBy (a * 256 + b) c o ≡ some e → length (e .kids) ≤ childLimit
     few none q = absurd (none-some q)
     few (some ns) q = few-if (a * 256 + b) ns (eqb (length ns) c) (leb c childLimit) refl refl q
+
+pub node-back : (bs : List ℕ) (e : Node) → nodeFrame bs ≡ some e → nodeEntry (wordsOfNode e) 0 ≡ some e
+node-back bs e p = node-words e (node-few bs e p)
+
+pub node-long : (bs : List ℕ) (e : Node) → nodeFrame bs ≡ some e → length (wordsOfNode e) ≡ nodeWords
+node-long bs e p =
+    let c = length (e .kids) in
+    omega (arith, node-few bs e p, length-append (e .kids) (replicate (nodeWords - suc (suc c)) 0), length-replicate {A = ℕ} (nodeWords - suc (suc c)) 0)
 
 -- a side's items stand in their slots
 slot-item : (i : Item) → itemOf (itemKind i) (itemField i) (itemCount i) ≡ some i
@@ -175,11 +183,22 @@ module _ (n : ℕ) (r : Rule) where
   item-sides none h = absurd (none-some h)
   item-sides (some is) h = read-sides is (readP is) refl h
 
-pub rule-back : (bs : List ℕ) (r : Rule) → ruleFrame bs ≡ some r → ruleEntry (wordsOfRule r) 0 ≡ some r
+frame-sided : (bs : List ℕ) (r : Rule) → ruleFrame bs ≡ some r → IsSide (r .left) × IsSide (r .right)
 unfolding ruleFrame
-rule-back [] r p = absurd (none-some p)
-rule-back (a ∷ []) r p = absurd (none-some p)
-rule-back (a ∷ b ∷ bs) r p = let s = item-sides (a * 256 + b) r (frameItems bs) p in rule-words r (s .0) (s .1)
+frame-sided [] r p = absurd (none-some p)
+frame-sided (a ∷ []) r p = absurd (none-some p)
+frame-sided (a ∷ b ∷ bs) r p = item-sides (a * 256 + b) r (frameItems bs) p
+
+pub rule-back : (bs : List ℕ) (r : Rule) → ruleFrame bs ≡ some r → ruleEntry (wordsOfRule r) 0 ≡ some r
+rule-back bs r p = let s = frame-sided bs r p in rule-words r (s .0) (s .1)
+
+pub rule-long : (bs : List ℕ) (r : Rule) → ruleFrame bs ≡ some r → length (wordsOfRule r) ≡ ruleWords
+unfolding wordsOfRule
+rule-long bs r p =
+    let s = frame-sided bs r p in
+    let ls = padded sideWords (slotsOf (items (r .left))) in
+    let rs = padded sideWords (slotsOf (items (r .right))) in
+    omega (arith, length-append ls rs, side-length (r .left) (s .0), side-length (r .right) (s .1))
 
 pub connection-back : (bs : List ℕ) (c : Connection) → connectionFrame bs ≡ some c → connectionEntry (wordsOfConnection c) 0 ≡ some c
 connection-back bs c p = connection-words c

@@ -1,5 +1,5 @@
 -- Decimal digits: a number is the digits of its tenth and the last digit, powers of ten bound how many there are, and so they are put into a room.
-use Prim.Native.Nat.{ℕ, zero, suc, _+_, _*_, _^_, _/_, _%_, _≤_, _<_}
+use Prim.Native.Nat.{ℕ, zero, suc, _+_, _^_, _/_, _%_, _≤_, _<_}
 use native.Mathlib.Omega.{arith}
 use native.Mathlib.Nat.{pow-suc}
 use mathlib.Core.Path.{_≡_, refl, sym, ap, ap₂, _∙_}
@@ -78,6 +78,19 @@ few-by (suc d) (suc k) n h =
       length-append (digitsBy d (n / 10)) (digit (n % 10) ∷ []),
       few-by d k (n / 10) (tenth (suc k) n h),
     ))
+
+all-by : (d n : ℕ) → length (digitsBy d n) ≤ suc d
+unfolding digitsBy
+all-by zero n = omega arith
+all-by (suc d) n =
+    by-size n (λ s. omega (arith, ap length (one-digit (suc d) n s)))
+    (λ s.
+    omega (arith, ap length (more-digits d n s), length-append (digitsBy d (n / 10)) (digit (n % 10) ∷ []), all-by d (n / 10)))
+
+-- never more than 20
+pub all-digits : (n : ℕ) → length (digits n) ≤ 20
+unfolding digits
+all-digits n = all-by 19 n
 
 pub some-digits : (n : ℕ) → 1 ≤ length (digits n)
 unfolding digits

@@ -14,7 +14,8 @@ use Rattle.model.specs.Limits.{nodeLimit}
 use Rattle.paths.specs.Hangs.{Forest, depth, nextOf}
 use Rattle.paths.specs.Meet.{meetOf, topOf}
 use Rattle.paths.specs.declared.Meeting.the-variants.{At, Nowhere}
-use Rattle.paths.proofs.Laws.{climb-left, no-parent, parent-case, walk-self}
+use Rattle.paths.proofs.Laws.{no-parent, parent-case}
+use Rattle.paths.proofs.Walks.{climb-left, walk-self}
 use Rattle.paths.proofs.Joined.{joined-root}
 use Rattle.paths.proofs.Places.{high, low, place}
 use Rattle.paths.proofs.Ways.{climbBy, depth-climb, downs, hop, root-climb, ups}

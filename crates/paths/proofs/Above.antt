@@ -8,7 +8,7 @@ use Rattle.model.specs.declared.Connection.{Connection}
 use Rattle.model.specs.Forest.{nxt, root, walk}
 use Rattle.paths.specs.Hangs.{nextOf, depth, Forest}
 use Rattle.paths.specs.Meet.{topOf}
-use Rattle.paths.proofs.Laws.{climb-left, walk-self}
+use Rattle.paths.proofs.Walks.{climb-left, walk-self}
 use Rattle.paths.proofs.Places.{high, low, place}
 use Rattle.paths.proofs.Ways.{climbBy, root-climb, depth-climb, hop, hop-low, ups, downs, meets}
 use Rattle.paths.proofs.Climbed.{climbed}

@@ -17,7 +17,7 @@ use Rattle.model.specs.Term.{sameOp}
 use Rattle.model.specs.Forest.{cur, nxt, root, joined, dist, Parent, top, below, parentOf, isTop}
 use Rattle.model.specs.Connect.{misplaced, pairsJoined, supported, addConnection}
 use Rattle.paths.specs.Hangs.{Hangs, Forest, Loose, AcceptedConnections, Sound, Within, Paired}
-use Rattle.paths.proofs.Laws.{forest-loose}
+use Rattle.paths.proofs.Walks.{forest-loose}
 use Rattle.paths.proofs.Joined.{joined-root, apart-root, dist-sym}
 
 none-holds : (a b c d e : Bool) → (a || b || c || d || e) ≡ false →

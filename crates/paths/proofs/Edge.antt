@@ -8,7 +8,8 @@ use mathlib.Core.Logic.{_⊎_, inl, inr, ⊎-elim}
 use Rattle.model.specs.declared.Connection.{Connection}
 use Rattle.model.specs.Forest.{cur, nxt, root, walk}
 use Rattle.paths.specs.Hangs.{Loose}
-use Rattle.paths.proofs.Laws.{root-old, root-hung, root-kept, split, walk-old, walk-up, walk-down, walk-self}
+use Rattle.paths.proofs.Laws.{root-old, root-hung, root-kept}
+use Rattle.paths.proofs.Walks.{split, walk-old, walk-up, walk-down, walk-self}
 
 -- a connection of a list, with the older ones
 pub data In (c : Connection) (older : List Connection) : List Connection → Type 0 where

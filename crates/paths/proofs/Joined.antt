@@ -12,7 +12,8 @@ use Rattle.model.specs.declared.Connection.{Connection}
 use Rattle.model.specs.Node.{Node}
 use Rattle.model.specs.Forest.{cur, nxt, Linked, itself, back, through, by, root, joined, path, dist, costBy}
 use Rattle.paths.specs.Hangs.{Loose}
-use Rattle.paths.proofs.Laws.{root-hung, root-kept, root-old, joined-yes, joined-no, split, walk-old, walk-self, turned}
+use Rattle.paths.proofs.Laws.{root-hung, root-kept, root-old, joined-yes, joined-no}
+use Rattle.paths.proofs.Walks.{split, walk-old, walk-self, turned}
 
 pub joined-root : (cs : List Connection) (l r : ℕ) → joined cs l r ≡ true → root cs l ≡ root cs r
 unfolding joined

@@ -1,4 +1,5 @@
 pub mod Laws
+pub mod Walks
 pub mod Bound
 pub mod Places
 pub mod Ways

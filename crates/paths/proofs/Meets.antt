@@ -11,7 +11,8 @@ use Rattle.model.specs.Forest.{nxt, root, joined, walk, below, parentOf}
 use Rattle.paths.specs.Hangs.{nextOf, depth, Forest, Within}
 use Rattle.paths.specs.Meet.{Last, none, at, last, orElse, lastUp, topOf, meetOf, found}
 use Rattle.paths.specs.declared.Meeting.the-variants.{At, Nowhere}
-use Rattle.paths.proofs.Laws.{no-parent, parent-case, root-below, depth-zero, joined-yes, joined-no, climb-left, climb-right, walk-self}
+use Rattle.paths.proofs.Laws.{no-parent, parent-case, root-below, joined-yes, joined-no}
+use Rattle.paths.proofs.Walks.{depth-zero, climb-left, climb-right, walk-self}
 use Rattle.paths.proofs.Places.{Place, high, low, place}
 
 -- a parent connection is one of the list's

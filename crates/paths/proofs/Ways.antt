@@ -9,7 +9,8 @@ use native.Mathlib.Decide.{ℕ-discrete, decLe}
 use Rattle.model.specs.declared.Connection.{Connection}
 use Rattle.model.specs.Forest.{nxt, root, walk, Parent, top, below, parentOf}
 use Rattle.paths.specs.Hangs.{nextOf, depth, Forest}
-use Rattle.paths.proofs.Laws.{climb-left, climb-right, walk-self, root-below, depth-below, depth-zero}
+use Rattle.paths.proofs.Laws.{root-below, depth-below}
+use Rattle.paths.proofs.Walks.{climb-left, climb-right, walk-self, depth-zero}
 use Rattle.paths.proofs.Places.{high, low, place}
 
 -- the node k connections above

@@ -50,8 +50,11 @@ abbrev pub whereListed : List ℕ → ℕ → Listed
 whereListed ws x = listedBelow ws (length ws / ruleWords) x
 
 -- the slots of an entry's left side, and of its right side
+abbrev pub sideSlots : List ℕ → ℕ → ℕ → List ℕ
+sideSlots ws i from = take sideWords (drop (i * ruleWords + from) ws)
+
 abbrev pub leftSlots : List ℕ → ℕ → List ℕ
-leftSlots ws i = take sideWords (drop (i * ruleWords + leftAt) ws)
+leftSlots ws i = sideSlots ws i leftAt
 
 abbrev pub rightSlots : List ℕ → ℕ → List ℕ
-rightSlots ws i = take sideWords (drop (i * ruleWords + rightAt) ws)
+rightSlots ws i = sideSlots ws i rightAt

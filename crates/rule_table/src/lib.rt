@@ -20,7 +20,7 @@ ghost use lib.ListN.{length};
 ghost use Rattle.model.specs.Judged.{judgementOf};
 ghost use Rattle.model.specs.Tables.{itemWords, sideWords, ruleWords, sideAt, ruleTable};
 ghost use Rattle.rule_table.specs.Slots.{isSide, itemAt, slotOf, Standing, knownFrom};
-ghost use Rattle.rule_table.specs.Entries.{AcceptedRules, HasRule, entryOf, withEntry, whereListed, leftSlots, rightSlots};
+ghost use Rattle.rule_table.specs.Entries.{AcceptedRules, HasRule, entryOf, withEntry, whereListed, sideSlots, leftSlots, rightSlots};
 
 // Where a rule number is listed.
 pub enum Listed {
@@ -49,14 +49,23 @@ pub fn find_rule(rules: &[u16], number: RuleNo) -> Listed
     Listed::Nowhere
 }
 
-// The slots of the left side of entry `i`.
+// The slots of a side of entry `i`, which begins so many words behind the entry's first.
+fn side_at(rules: &[u16], i: usize, from: usize) -> &[u16]
+    requires { ⌜ HasRule (now rules) i ⌝ }
+    requires { ⌜ from + sideWords ≤ ruleWords ⌝ }
+    ensures { λ r. ⌜ now r ≡ sideSlots (now (rules .entry)) i from ⌝ }
+{
+    let at = i * RULE_WORDS + from;
+    let end = at + SIDE_WORDS;
+    &rules[at..end]
+}
+
+// The slots of its left side.
 pub fn left_side(rules: &[u16], i: usize) -> &[u16]
     requires { ⌜ HasRule (now rules) i ⌝ }
     ensures { λ r. ⌜ now r ≡ leftSlots (now (rules .entry)) i ⌝ }
 {
-    let at = i * RULE_WORDS + LEFT_AT;
-    let end = at + SIDE_WORDS;
-    &rules[at..end]
+    side_at(rules, i, LEFT_AT)
 }
 
 // And those of its right side.
@@ -64,9 +73,7 @@ pub fn right_side(rules: &[u16], i: usize) -> &[u16]
     requires { ⌜ HasRule (now rules) i ⌝ }
     ensures { λ r. ⌜ now r ≡ rightSlots (now (rules .entry)) i ⌝ }
 {
-    let at = i * RULE_WORDS + RIGHT_AT;
-    let end = at + SIDE_WORDS;
-    &rules[at..end]
+    side_at(rules, i, RIGHT_AT)
 }
 
 // The one place where an item's three words are read: what the slot at `at` holds, by its kind.

@@ -9,7 +9,8 @@ use Rattle.model.specs.declared.Connection.{Connection}
 use Rattle.model.specs.Node.{Node}
 use Rattle.model.specs.Forest.{root, walk, below, parentOf}
 use Rattle.paths.specs.Hangs.{nextOf, depth, Forest, AcceptedConnections}
-use Rattle.paths.proofs.Laws.{root-old, walk-old, parent-old, no-parent}
+use Rattle.paths.proofs.Laws.{root-old, parent-old, no-parent}
+use Rattle.paths.proofs.Walks.{walk-old}
 use Rattle.paths.proofs.Places.{Place, high, low, place, next-below}
 use Rattle.paths.proofs.Ways.{climbBy}
 

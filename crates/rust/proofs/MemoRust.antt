@@ -16,7 +16,8 @@ use Rattle.model.specs.Forest.{cur, nxt, root, Hop, path}
 use Rattle.paths.specs.Hangs.{AcceptedConnections}
 use Rattle.paths.proofs.Accept.{sound}
 use Rattle.paths.proofs.Joined.{root-ends, path-old, path-self}
-use Rattle.paths.proofs.Laws.{root-old, walk-up, walk-down, walk-self}
+use Rattle.paths.proofs.Laws.{root-old}
+use Rattle.paths.proofs.Walks.{walk-up, walk-down, walk-self}
 use Rattle.paths.proofs.Climbed.{hopOf}
 use Rattle.rust.specs.Explain.{Justification, rule, congruence, Connection, Memoed, Explain, memoed, justified}
 use Rattle.rust.specs.Paths.{isRule, neighborTo, getPath, turnedFrom}

@@ -15,7 +15,8 @@ use Rattle.model.specs.Forest.{cur, nxt, root, joined, below, parentOf}
 use Rattle.paths.specs.Meet.{topOf, meetOf}
 use Rattle.paths.specs.declared.Meeting.the-variants.{At, Nowhere}
 use Rattle.paths.specs.Hangs.{nextOf, depth, Forest}
-use Rattle.paths.proofs.Laws.{no-parent, parent-case, climb-left, walk-self}
+use Rattle.paths.proofs.Laws.{no-parent, parent-case}
+use Rattle.paths.proofs.Walks.{climb-left, walk-self}
 use Rattle.paths.proofs.Places.{high, low, place}
 use Rattle.paths.proofs.Ways.{climbBy, root-climb, depth-climb}
 use Rattle.forest.specs.Rows.{Climbs, ageIn, ageOf, costIn, depthIn, nextIn}

@@ -9,8 +9,8 @@ use Rattle.model.specs.declared.Connection.{Connection}
 use Rattle.model.specs.Judged.{judgementOf}
 use Rattle.model.specs.Forest.{cur, nxt}
 use Rattle.model.specs.Tables.{connectionWords}
-use Rattle.connections.specs.Classes.{upTo, classesJoined}
-use Rattle.connections.proofs.Whole.{Sofar, sofar-none, sofar-forest, sofar-few, sofar-bad, Onward, sofar-onward, sofar-more, sofar-done}
+use Rattle.connections.specs.Classes.{upTo, classesJoined, Sofar}
+use Rattle.connections.proofs.Whole.{sofar-none, sofar-forest, sofar-few, sofar-bad, Onward, sofar-onward, sofar-more, sofar-done}
 use Rattle.connections.proofs.judge_ages.Statement.{statement}
 use Rattle.connections.proofs.judge_ages.Tie as tie
 

@@ -3,13 +3,14 @@
 use native.Mathlib.Omega.{arith}
 use Prim.Native.Nat.{ℕ, _+_, _*_, _-_, _<_}
 use mathlib.Core.List.{List}
-use mathlib.Core.Path.{_≡_, sym, ap, ap₂, _∙_}
+use mathlib.Core.Path.{_≡_, ap, ap₂, _∙_}
 use Rattle.model.specs.declared.Connection.{Connection}
-use Rattle.model.specs.Forest.{root, sumPairs}
+use Rattle.model.specs.Forest.{sumPairs}
 use Rattle.model.specs.Tables.{nodeWords, childrenAt, wordsFrom}
 use Rattle.entries.specs.Nodes.{childIn, childrenIn, countIn}
 use Rattle.forest.specs.Rows.{Climbs}
 use Rattle.costs.specs.Costs.{held, nodesIn, weigh}
+use Rattle.costs.proofs.Payable.{pair-joins}
 use Rattle.costs.proofs.Sums.{Sums, sums-done, sums-next, sums-none}
 use Rattle.costs.proofs.children_cost.Statement.{statement}
 use Rattle.costs.proofs.children_cost.Tie as tie
@@ -56,18 +57,7 @@ child-of-requires-2 c κs =
 path-cost-requires : tie.Need-path-cost-requires Inv-loop μ-loop
 path-cost-requires c κs =
     let t = c .before .before in
-    let p = t .before .before .before .before .pre in
-    let i = t .before .loop .i in
-    let x = c .before .child-of .ensures in
-    let y = c .child-of2 .ensures in
-    record {
-      conns = p .conns;
-      nodes = _;
-      charged = p .charged;
-      left-in = omega (arith, x, p .left-in i (more t));
-      right-in = omega (arith, y, p .right-in i (more t));
-      same = ap (root (p .conns)) x ∙ p .joins i (more t) ∙ ap (root (p .conns)) (sym y);
-    }
+    pair-joins (t .before .before .before .before .pre) (more t) (c .before .child-of .ensures) (c .child-of2 .ensures)
 
 -- what the next pair costs, by any connections that the rows stand for
 pair : (c : tie.After-path-cost Inv-loop μ-loop) →

@@ -3,9 +3,9 @@ use borrow.Author.Needs.{needs}
 use native.Mathlib.Omega.{arith}
 use Prim.Native.Nat.{_+_, _≤_}
 use mathlib.Core.Path.{_≡_, ap}
-use lib.ListN.{length, length-append}
+use lib.ListN.{length}
 use Rattle.model.specs.Text.{digits}
-use Rattle.letters.proofs.Digits.{some-digits, few-digits, one-more-digit, last-digit}
+use Rattle.letters.proofs.Digits.{few-digits, one-more-digit, last-digit}
 use Rattle.letters.proofs.number_len.Statement.{statement}
 use Rattle.letters.proofs.number_len.Tie as tie
 

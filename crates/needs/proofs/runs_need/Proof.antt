@@ -5,10 +5,9 @@ use native.Mathlib.Omega.{arith}
 use native.Mathlib.Nat.{mul-le-mul}
 use Prim.Native.Nat.{ℕ, suc, _+_, _-_, _*_, _<_, _≤_}
 use mathlib.Core.List.{List}
-use mathlib.Core.Path.{_≡_, sym, ap, ap₂, _∙_}
+use mathlib.Core.Path.{_≡_, ap, ap₂, _∙_}
 use lib.ListN.{getD}
 use Rattle.model.specs.declared.Connection.{Connection}
-use Rattle.model.specs.Forest.{root}
 use Rattle.model.specs.Limits.{childLimit}
 use Rattle.model.specs.Tables.{childrenAt, nodeWords, wordsFrom}
 use Rattle.model.specs.Flat.{sum}
@@ -16,6 +15,7 @@ use Rattle.entries.specs.Nodes.{childIn, childrenIn, countIn}
 use Rattle.entries.proofs.Children.{left}
 use Rattle.forest.specs.Rows.{Climbs}
 use Rattle.costs.specs.Costs.{nodesIn, weigh}
+use Rattle.costs.proofs.Payable.{pair-joins}
 use Rattle.trees.specs.Sizes.{heldNodes, nodeCap, tableBound}
 use Rattle.trees.proofs.Filled.{drop-words}
 use Rattle.needs.specs.Needs.{Comes, pathNodes, runsBy}
@@ -121,18 +121,7 @@ child-of-requires-2 c κs = (start (c .before .before) .pre .right-known .room, 
 path-need-requires : tie.Need-path-need-requires Inv-loop μ-loop
 path-need-requires c κs =
     let t = c .before .before in
-    let p = start (t .before) .pre in
-    let i = t .before .loop .i in
-    let x = c .before .child-of .ensures in
-    let y = c .child-of2 .ensures in
-    record {
-      conns = p .conns;
-      nodes = _;
-      charged = p .charged;
-      left-in = omega (arith, x, p .left-in i (more t));
-      right-in = omega (arith, y, p .right-in i (more t));
-      same = ap (root (p .conns)) x ∙ p .joins i (more t) ∙ ap (root (p .conns)) (sym y);
-    }
+    pair-joins (start (t .before) .pre) (more t) (c .before .child-of .ensures) (c .child-of2 .ensures)
 
 add-sizes-from : tie.Need-add-sizes-from Inv-loop μ-loop
 add-sizes-from c = omega (arith, few (c .before .before .before))

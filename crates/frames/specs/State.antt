@@ -1,0 +1,32 @@
+-- The run's state, as the counts and the lent tables hold it.
+use Prim.Native.Nat.{ℕ, suc, _+_, _*_, _≤_, _<_}
+use mathlib.Core.List.{List}
+use mathlib.Core.Path.{_≡_}
+use lib.ListN.{length, take}
+use Rattle.model.specs.Limits.{nodeLimit, programArea}
+use Rattle.model.specs.Judged.{good}
+use Rattle.model.specs.Tables.{nodeWords}
+use Rattle.model.specs.Frame.{connectionKind}
+use Rattle.model.specs.Run.{State}
+use Rattle.rule_table.specs.Entries.{rulesIn}
+use Rattle.entries.specs.Nodes.{nodesTo}
+use Rattle.entries.specs.Connections.{connectionsTo}
+use Rattle.connections.specs.Classes.{Classes}
+use Rattle.frames.specs.declared.Counts.{Counts}
+
+-- room for one node more than there may be
+abbrev pub nodeRoom : ℕ
+nodeRoom = nodeLimit * nodeWords + nodeWords
+
+-- The counted entries are the run's tables, each accepted behind those before it; the counted words are those of the open proof. What
+-- stands behind them plays no part. The classes are those of the connections, once there is one; before the first frame of a
+-- connection there is none.
+pub record Stands (k : Counts) (nws rws cws classes area : List ℕ) (s : State) : Type 0 where
+  pub kind : s .kind ≡ k .kind
+  pub nodes : nodesTo nws (k .nodes) ≡ good (s .tables .nodes)
+  pub rules : rulesIn rws (k .rules) ≡ good (s .tables .rules)
+  pub conns : connectionsTo (s .tables .nodes) cws (k .connections) ≡ good (s .tables .conns)
+  pub tops : 0 < k .connections → Classes (s .tables .conns) (k .nodes) (take (k .nodes) classes)
+  pub words : take (k .offered) area ≡ s .open-words
+  pub fits : k .offered ≤ programArea
+  pub fresh : k .kind < connectionKind → k .connections ≡ 0

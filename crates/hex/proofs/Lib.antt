@@ -1,0 +1,4 @@
+pub mod Digits
+pub mod Lines
+pub mod Spelled
+pub mod Only

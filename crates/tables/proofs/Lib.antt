@@ -1,0 +1,4 @@
+pub mod Slots
+pub mod Put
+pub mod Nodes
+pub mod Connections

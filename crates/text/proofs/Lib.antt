@@ -1,0 +1,10 @@
+pub mod Emitted
+pub mod Counted
+pub mod Heads
+pub mod Filled
+pub mod Stacked
+pub mod Sized
+pub mod Written
+pub mod Printed
+pub mod Lined
+pub mod Only
