@@ -1,5 +1,5 @@
-"""Whole runs of the program, as named rows: (name, input, output), both in bytes. An output is written by hand where it is short, and
-else made by tests/reference.py or by a rule that says what each line is."""
+"""Whole runs of the program, as named rows: what is read and what must be printed. An output is written by hand where it is short, or
+by a rule that says what each line is; the few others, None here, are made by tests/reference.py. `rows` has them all in bytes."""
 from reference import output
 from scope import AREA, DIGITS, NODES, R7, R9, R10, RULES, TERMS, many
 from stored import connection_line, deep_lines, node_line, offered_line, query_line, rule_line, table_lines
@@ -43,7 +43,6 @@ O1, O2, O5 = (1, 0, 0, 0), (2, 0, 0, 0), (5, 2, 0, 0)
 FORTH, BACK, UNLISTED = (2, 0, 1, 7), (1, 0, 2, 7), (2, 0, 1, 8)
 LEAVES = [node_line((1, []))] * NODES
 LISTED = [rule_line(r) for r in many(RULES)]
-MARKED = term(O2[:2] + (1, 7))
 
 # Every refusal with a smallest input, and with the ones behind it in their order true as well. 19 for words is out of the program's
 # reach: its area holds 32,768 of them.
@@ -118,10 +117,10 @@ REFUSALS = [
     ('13 a count of 9', [term((3, 9, 0, 0), *[O1] * 9), '06'], ['rejected 13 term 0']),
     ('13 a mark of 3', [term((1, 0, 3, 7)), '06'], ['rejected 13 term 0']),
     ('13 an unmarked node with a rule', [term((1, 0, 0, 7)), '06'], ['rejected 13 term 0']),
-    ('13 before 14', [*RULE_LINES, MARKED, term((3, 1, 0, 0)), '06'], ['rejected 13 term 0']),
-    ('14 the first term marked', [*RULE_LINES, MARKED, '06'], ['rejected 14 term 0']),
+    ('13 before 14', [*RULE_LINES, term(FORTH), term((3, 1, 0, 0)), '06'], ['rejected 13 term 0']),
+    ('14 the first term marked', [*RULE_LINES, term(FORTH), '06'], ['rejected 14 term 0']),
     ('14 inside the first term', [*RULE_LINES, term((3, 1, 0, 0), FORTH), '06'], ['rejected 14 term 0']),
-    ('14 before 15', [*RULE_LINES, MARKED, term(O1), '06'], ['rejected 14 term 0']),
+    ('14 before 15', [*RULE_LINES, term(FORTH), term(O1), '06'], ['rejected 14 term 0']),
     ('15 a later term without a mark', [*RULE_LINES, term(O1), term(O1), '06'], ['rejected 15 term 1']),
     ('15 both directions', [*RULE_LINES, term(O5, O1, O2), term(O5, FORTH, BACK), '06'], ['rejected 15 term 1']),
     ('15 before 18, 16 and 17, one mark inside the other', [*RULE_LINES, term(O1), term((5, 1, 1, 8), BACK), '06'], ['rejected 15 term 1']),
