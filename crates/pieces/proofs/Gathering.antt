@@ -6,8 +6,7 @@ use mathlib.Core.Path.{_≡_, refl, sym, ap, ap₂, _∙_}
 use native.Mathlib.Omega.{arith}
 use native.Mathlib.Numerals.{add-one}
 use borrow.Author.Tests.{eq-eqb, ne-eqb}
-use lib.Dec.{eqb}
-use lib.ListN.{length, getD, set, take, drop, length-append, length-take, drop-of-length-le}
+use lib.ListN.{length, getD, set, drop, length-append, length-take, drop-of-length-le}
 use lib.Seq.{drop-cons, take-all, take-nil, take-append-le}
 use Rattle.model.specs.Run.{lineFeed}
 use Rattle.laws.specs.Area.{splice}

@@ -1,3 +1,4 @@
 pub mod Gathering
 pub mod Pieces
+pub mod Reading
 pub mod Only

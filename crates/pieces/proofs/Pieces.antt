@@ -3,17 +3,17 @@
 use Prim.Native.Nat.{ℕ, suc, _+_, _≤_}
 use mathlib.Core.Bool.{Bool, true, false}
 use mathlib.Core.List.{List, [], _∷_, _++_, map, append-assoc, append-nil}
-use mathlib.Core.Path.{_≡_, refl, sym, ap, ap₂, _∙_}
+use mathlib.Core.Path.{_≡_, refl, sym, ap, _∙_}
 use native.Mathlib.Omega.{arith}
 use lib.Dec.{leb, eqb}
-use lib.ListN.{length, take, length-take}
+use lib.ListN.{length}
 use lib.Seq.{take-all, take-append-le, length-take-le, take-take}
 use borrow.Author.Tests.{leb-true, leb-false}
 use Rattle.model.specs.Frame.{lineBytes}
 use Rattle.model.specs.Run.{State, start, Turn, go, stop, lineTurn, refusalText, lineFeed, InputLines, lineFront, split, atEnd, run, output}
 use Rattle.hex.proofs.Lines.{cut-line}
 use Rattle.pieces.specs.Line.{keptLimit, cut}
-use Rattle.pieces.specs.Reader.{linesThen, feed, feedAll, together, cutLines}
+use Rattle.pieces.specs.Pieces.{linesThen, feed, feedAll, together, cutLines}
 
 -- a line is cut the same where its front was cut before
 pub cut-front : (x y : List ℕ) → cut (cut x ++ y) ≡ cut (x ++ y)

@@ -1,2 +1,2 @@
 pub mod Line
-pub mod Reader
+pub mod Pieces

@@ -54,8 +54,8 @@ loop-again c =
     let here = t .loop-test .taken in
     let other = c .before .if1 .left in
     ⊎-elim
-    (λ w. gathering-stored (p .1) (p .2) inv here other (w .0 .taken) (w .2) (w .3))
-    (λ w. gathering-over (p .1) (p .2) inv here other (w .0 .left) (w .1) (w .2))
+    (λ w. gathering-stored (p .1) (p .2) inv here other (omega (arith, w .0 .taken)) (w .2) (w .3))
+    (λ w. gathering-over (p .1) (p .2) inv here other (omega (arith, w .0 .left)) (w .1) (w .2))
     (c .if2 .came)
 
 returns-2 : tie.Need-returns-2 Inv-loop μ-loop

@@ -1,6 +1,6 @@
 -- A reader that is handed the input in pieces: the lines that it completes, and what it keeps of the line that is open.
 use Prim.Native.Nat.{ℕ}
-use mathlib.Core.Bool.{cond}
+use mathlib.Core.Bool.{Bool, true, false, cond}
 use mathlib.Core.List.{List, [], _∷_, _++_, map}
 use lib.Dec.{eqb}
 use Rattle.model.specs.Run.{lineFeed, InputLines}
@@ -20,6 +20,11 @@ unfoldable pub feedAll : List ℕ → List (List ℕ) → InputLines
 unfolding feed
 feedAll line [] = record { whole = []; rest = line }
 feedAll line (p ∷ ps) = let first = feed line p in linesThen (first .whole) (feedAll (first .rest) ps)
+
+-- a line up to a line feed, if there is one, and then what the bytes behind it give; else the line is open still
+abbrev pub lineThen : Bool → List ℕ → List ℕ → InputLines
+lineThen true line left = linesThen (line ∷ []) (feed [] left)
+lineThen false line left = record { whole = []; rest = line }
 
 -- the input that pieces come from
 unfoldable pub together : List (List ℕ) → List ℕ
