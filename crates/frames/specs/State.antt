@@ -1,27 +1,35 @@
 -- The run's state, as the counts and the lent tables hold it.
-use Prim.Native.Nat.{ℕ, suc, _+_, _*_, _≤_, _<_}
+use Prim.Native.Nat.{ℕ, suc, _+_, _*_, _/_, _≤_, _<_}
 use mathlib.Core.List.{List}
 use mathlib.Core.Path.{_≡_}
 use lib.ListN.{length, take}
 use Rattle.model.specs.declared.Connection.{Connection}
-use Rattle.model.specs.Limits.{nodeLimit, programArea}
+use Rattle.model.specs.Limits.{nodeLimit, ruleLimit, programArea, flatWords}
 use Rattle.model.specs.Judged.{good}
 use Rattle.model.specs.Node.{Node}
-use Rattle.model.specs.Tables.{nodeWords, connectionWords}
+use Rattle.model.specs.Tables.{nodeWords, ruleWords, connectionWords}
 use Rattle.model.specs.Frame.{connectionKind}
 use Rattle.model.specs.Run.{State}
 use Rattle.rule_table.specs.Entries.{rulesIn}
 use Rattle.entries.specs.Nodes.{nodesTo}
 use Rattle.entries.specs.Connections.{connectionsTo}
 use Rattle.connections.specs.Classes.{Classes}
+use Rattle.reports.specs.Reports.{reportRoom}
 use Rattle.frames.specs.declared.Counts.{Counts}
 
 -- room for one node more than there may be
 abbrev pub nodeRoom : ℕ
 nodeRoom = nodeLimit * nodeWords + nodeWords
 
+abbrev pub ruleRoom : ℕ
+ruleRoom = ruleLimit * ruleWords + ruleWords
+
 abbrev pub connectionRoom : ℕ
 connectionRoom = nodeLimit * connectionWords
+
+-- 28 bytes for each node of the longest proof, and a report
+abbrev pub textRoom : ℕ
+textRoom = programArea / flatWords * 28 + reportRoom
 
 -- The counted entries are the run's tables, each accepted behind those before it; the counted words are those of the open proof. What
 -- stands behind them plays no part. The classes are those of the connections, once there is one; before the first frame of a

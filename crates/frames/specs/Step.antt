@@ -4,9 +4,10 @@ use mathlib.Core.List.{List}
 use mathlib.Core.Path.{_≡_}
 use lib.ListN.{length, take}
 use Rattle.model.specs.Node.{addNode}
+use Rattle.model.specs.Rule.{addRule}
 use Rattle.model.specs.Connect.{addConnection}
-use Rattle.model.specs.Frame.{nodeFrame, connectionFrame, wordsFrame}
-use Rattle.model.specs.Run.{State, Turn, go, stop, nodeTurn, connectionTurn, opened}
+use Rattle.model.specs.Frame.{nodeFrame, ruleFrame, connectionFrame, wordsFrame, isNone}
+use Rattle.model.specs.Run.{State, Turn, go, stop, nodeTurn, ruleTurn, connectionTurn, opened, closed}
 use Rattle.connections.specs.Classes.{upTo}
 use Rattle.frames.specs.declared.Counts.{Counts}
 use Rattle.frames.specs.declared.Step.{Step}
@@ -41,3 +42,12 @@ abbrev pub WordsStep : Counts → List ℕ → List ℕ → Step → List ℕ �
 WordsStep k bytes before r after =
     (nws rws cws classes room : List ℕ) (s : State) → Stands k nws rws cws classes before s
     → StepIs (opened s (wordsFrame bytes)) r nws rws cws classes after room
+
+abbrev pub RuleStep : Counts → List ℕ → List ℕ → Step → List ℕ → Type 0
+RuleStep k bytes before r after =
+    (nws cws classes area room : List ℕ) (s : State) → Stands k nws before cws classes area s → k .connections ≡ 0
+    → StepIs (ruleTurn s (addRule (s .tables .rules) (ruleFrame bytes))) r nws after cws classes area room
+
+abbrev pub CloseStep : Counts → List ℕ → List ℕ → List ℕ → Step → List ℕ → Type 0
+CloseStep k bytes rws area r room =
+    (nws cws classes : List ℕ) (s : State) → Stands k nws rws cws classes area s → StepIs (closed s (isNone bytes)) r nws rws cws classes area room

@@ -1,4 +1,5 @@
 pub mod Slots
 pub mod Put
 pub mod Nodes
+pub mod Rules
 pub mod Connections

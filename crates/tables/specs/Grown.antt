@@ -9,7 +9,9 @@ use Rattle.model.specs.Forest.{cur, nxt}
 use Rattle.model.specs.declared.Connection.{Connection}
 use Rattle.model.specs.Connect.{addConnection}
 use Rattle.model.specs.Node.{Node, addNode}
-use Rattle.model.specs.Frame.{nodeFrame, connectionFrame}
+use Rattle.model.specs.Rule.{Rule, addRule}
+use Rattle.model.specs.Frame.{nodeFrame, ruleFrame, connectionFrame}
+use Rattle.rule_table.specs.Entries.{rulesIn}
 use Rattle.entries.specs.Nodes.{nodesOf, nodesTo}
 use Rattle.entries.specs.Connections.{connectionIn, connectionsTo}
 use Rattle.connections.specs.Classes.{classesJoined, Sofar}
@@ -22,6 +24,15 @@ pub record Grown {A : Type 0} (j : Judged A) (r : Judgement) (table : Judged A) 
 abbrev pub NodesGrown : List ℕ → List ℕ → ℕ → Judgement → List ℕ → Type 0
 NodesGrown before bytes n r after =
     (ns : List Node) → nodesTo before n ≡ good ns → Grown (addNode ns (nodeFrame bytes)) r (nodesTo after (suc n))
+
+-- a rule, behind accepted ones
+pub record RulesHeld (rws : List ℕ) (n : ℕ) : Type 0 where
+  pub rules : List Rule
+  pub are : rulesIn rws n ≡ good rules
+
+abbrev pub RulesGrown : List ℕ → List ℕ → ℕ → Judgement → List ℕ → Type 0
+RulesGrown before bytes n r after =
+    (rs : List Rule) → rulesIn before n ≡ good rs → Grown (addRule rs (ruleFrame bytes)) r (rulesIn after (suc n))
 
 -- a connection, over accepted nodes
 abbrev pub ConnectionsGrown : List ℕ → List ℕ → List ℕ → ℕ → Judgement → List ℕ → Type 0

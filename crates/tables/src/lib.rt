@@ -5,22 +5,27 @@ use connections::join;
 use connections::judge_entry;
 use decode::put_connection;
 use decode::put_node;
+use decode::put_rule;
 use model::CONNECTION_WORDS;
 use model::Judgement;
 use model::NODE_WORDS;
+use model::RULE_WORDS;
 use nodes::judge_node;
+use rule_table::judge_rule;
 ghost use mathlib.Core.Path.{_≡_};
-ghost use Prim.Native.Nat.{_+_, _*_, _≤_};
-ghost use lib.ListN.{length};
+ghost use Prim.Native.Nat.{_+_, _-_, _*_, _≤_};
+ghost use lib.ListN.{length, take};
+ghost use Rattle.model.specs.Judged.{judgementOf};
 ghost use Rattle.model.specs.Limits.{nodeLimit};
-ghost use Rattle.model.specs.Frame.{nodeFrame, connectionFrame};
-ghost use Rattle.model.specs.Tables.{nodeWords, connectionWords};
+ghost use Rattle.model.specs.Frame.{nodeFrame, ruleFrame, connectionFrame};
+ghost use Rattle.model.specs.Tables.{nodeWords, ruleWords, connectionWords};
 ghost use Rattle.laws.specs.Area.{splice, part};
-ghost use Rattle.layouts.specs.Words.{wordsOfNode, wordsOfConnection};
+ghost use Rattle.layouts.specs.Words.{wordsOfNode, wordsOfRule, wordsOfConnection};
+ghost use Rattle.rule_table.specs.Entries.{AcceptedRules, entryOf, withEntry};
 ghost use Rattle.entries.specs.Nodes.{NodesWhole};
 ghost use Rattle.connections.specs.Classes.{Sofar};
 ghost use Rattle.decode.specs.Slot.{slotBy};
-ghost use Rattle.tables.specs.Grown.{NodesGrown, ConnectionsGrown, Onward, classesAfter};
+ghost use Rattle.tables.specs.Grown.{NodesGrown, RulesHeld, RulesGrown, ConnectionsGrown, Onward, classesAfter};
 
 // A node behind the first `n`.
 pub fn take_node(nodes: &mut [u16], n: usize, bytes: &[u8]) -> Judgement
@@ -34,6 +39,28 @@ pub fn take_node(nodes: &mut [u16], n: usize, bytes: &[u8]) -> Judgement
         return Judgement::Faulty(2);
     }
     judge_node(nodes, n)
+}
+
+// Judges the rule whose entry stands from `at` to `end`, behind those before it.
+fn judge_behind(rules: &[u16], at: usize, end: usize) -> Judgement
+    requires { ⌜ AcceptedRules (take at (now rules)) × (at ≤ end) × (end ≤ length (now rules)) ⌝ }
+    ensures { λ r. ⌜ r ≡ judgementOf (withEntry (take at (now (rules .entry))) (entryOf (part (now (rules .entry)) at (end - at)))) ⌝ }
+{
+    judge_rule(&rules[..at], &rules[at..end])
+}
+
+// A rule behind the first `n`.
+pub fn take_rule(rules: &mut [u16], n: usize, bytes: &[u8]) -> Judgement
+    requires { ⌜ RulesHeld (now rules) n × (n * ruleWords + ruleWords ≤ length (now rules)) ⌝ }
+    ensures { λ r. ⌜ RulesGrown (now (rules .entry)) (now (bytes .entry)) n r (now (rules .exit)) ⌝ }
+    ensures { λ _. ⌜ now (rules .exit) ≡ splice (now (rules .entry)) (n * ruleWords) (slotBy wordsOfRule (part (now (rules .entry)) (n * ruleWords) ruleWords) (ruleFrame (now (bytes .entry)))) ⌝ }
+{
+    let at = n * RULE_WORDS;
+    let end = at + RULE_WORDS;
+    if !put_rule(bytes, &mut rules[at..end]) {
+        return Judgement::Faulty(2);
+    }
+    judge_behind(rules, at, end)
 }
 
 // A connection behind the first `age`, over accepted nodes, with the classes of those before it.

@@ -106,7 +106,7 @@ returns c =
     let k = c .before in
     let s = at-start k in
     let e = says-none (connectionFrame (s .args .bytes .now)) (k .before .before .put-connection .ensures .0) (c .if1 .taken) in
-    (λ cs p. grown-bad (ap (addConnection (nodesOf (s .args .nodes .now)) cs) e), (written k, refl {a = s .args .classes .now}, tt))
+    (λ cs p. grown-bad (ap (addConnection (nodesOf (s .args .nodes .now)) cs) e), (written k, (refl {a = s .args .classes .now}, tt)))
 
 judge-entry-requires : tie.Need-judge-entry-requires
 judge-entry-requires c κs =
@@ -127,7 +127,7 @@ returns-2 : tie.Need-returns-2
 returns-2 c =
     let g = c .before in
     let j = g .before .before in
-    (grew j _ (g .judged .given .1), (written (j .before .before .before .before), refl, tt))
+    (grew j _ (g .judged .given .1), (written (j .before .before .before .before), (refl, tt)))
 
 enum-told : tie.Need-enum-told
 enum-told c = search needs
