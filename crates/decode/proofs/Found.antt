@@ -8,8 +8,8 @@ use lib.ListN.{length, drop, length-append, length-drop}
 use lib.Seq.{drop-drop}
 use Rattle.model.specs.Limits.{childLimit, itemLimit}
 use Rattle.model.specs.Pattern.{Item}
-use Rattle.decode.specs.declared.Part.{Part}
-use Rattle.decode.specs.declared.Side.the-variants.{Items, Wrong}
+use Rattle.decode.specs.declared.sides.Part.{Part}
+use Rattle.decode.specs.declared.sides.Side.the-variants.{Items, Wrong}
 use Rattle.decode.specs.Sides.{partOf, itemOf, Found, longer, found, sideFound, sideOf}
 use Rattle.decode.proofs.Parts.{Sound, sound}
 

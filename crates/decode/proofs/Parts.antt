@@ -11,7 +11,7 @@ use lib.Seq.{getD-drop}
 use Rattle.model.specs.Limits.{childLimit, variableLimit}
 use Rattle.model.specs.Frame.{two}
 use Rattle.layouts.specs.Words.{itemKind, itemField, itemCount}
-use Rattle.decode.specs.declared.Part.{Part}
+use Rattle.decode.specs.declared.sides.Part.{Part}
 use Rattle.decode.specs.Sides.{noPart, partIf, partOf, itemOf}
 
 no-byte : (l : List ℕ) → length l ≡ 0 → noPart ≡ partOf l

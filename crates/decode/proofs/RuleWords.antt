@@ -19,8 +19,8 @@ use Rattle.layouts.proofs.Back.{slots-length, padded-length}
 use Rattle.rule_table.proofs.Patterns.{none-some}
 use Rattle.rule_table.proofs.Sides.{first-item}
 use Rattle.rule_table.proofs.Frames.{frame-sides, Split, frame-split}
-use Rattle.decode.specs.declared.Side.{Side}
-use Rattle.decode.specs.declared.Side.the-variants.{Items, Wrong}
+use Rattle.decode.specs.declared.sides.Side.{Side}
+use Rattle.decode.specs.declared.sides.Side.the-variants.{Items, Wrong}
 use Rattle.decode.specs.Slot.{isThere, slotBy}
 use Rattle.decode.specs.Sides.{Found, found, sideFound, sideOf, itemsOf, HasItems, TwoSides, ruleSlot}
 use Rattle.decode.proofs.Rules.{Is, found-is, Finds, finds, ASide, a-side, side-scan}

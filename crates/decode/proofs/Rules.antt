@@ -18,7 +18,7 @@ use Rattle.model.specs.Frame.{two, frameItems, ruleItems, ruleFrame}
 use Rattle.rule_table.proofs.Patterns.{none-some, itemOk, arity, scan, isRow, scan-read, read-items}
 use Rattle.rule_table.proofs.Frames.{frame-sides, Split, frame-split}
 use Rattle.rule_table.proofs.Sides.{first-item}
-use Rattle.decode.specs.declared.Part.{Part}
+use Rattle.decode.specs.declared.sides.Part.{Part}
 use Rattle.decode.specs.Sides.{partIf, partOf, itemOf, Found, longer, found}
 use Rattle.decode.proofs.Parts.{Sound, sound}
 use Rattle.decode.proofs.Found.{found-done}

@@ -14,7 +14,7 @@ use Rattle.laws.proofs.Area.{length-splice, splice-none, splice-one, splice-pus
 use Rattle.laws.proofs.Stored.{Stored, stored-all}
 use Rattle.layouts.specs.Words.{itemKind, itemField, itemCount, slotsOf}
 use Rattle.layouts.proofs.Back.{slots-length}
-use Rattle.decode.specs.declared.Part.{Part}
+use Rattle.decode.specs.declared.sides.Part.{Part}
 use Rattle.decode.specs.Sides.{partOf, itemOf, Found, found, sideFound, itemsOf, HasItems}
 use Rattle.decode.proofs.Parts.{Sound, sound}
 use Rattle.decode.proofs.Found.{before, before-none, found-over, found-done, turn-none, turn-item, turn-fits}

@@ -12,9 +12,9 @@ use Rattle.model.specs.Pattern.{Item, variable, operator}
 use Rattle.model.specs.Tables.{sideWords}
 use Rattle.model.specs.Frame.{two}
 use Rattle.layouts.specs.Words.{padded, slotsOf}
-use Rattle.decode.specs.declared.Part.{Part}
-use Rattle.decode.specs.declared.Side.{Side}
-use Rattle.decode.specs.declared.Side.the-variants.{Items, Wrong}
+use Rattle.decode.specs.declared.sides.Part.{Part}
+use Rattle.decode.specs.declared.sides.Side.{Side}
+use Rattle.decode.specs.declared.sides.Side.the-variants.{Items, Wrong}
 
 -- the item that bytes begin with: how many bytes it has, none where they begin with no item, and its three words
 abbrev pub noPart : Part

@@ -1,12 +1,12 @@
--- `decode::put_items` meets its contract: the words of the items passed are written, and the bytes left say those to come.
+-- `decode::sides::put_items` meets its contract: the words of the items passed are written, and the bytes left say those to come.
 use borrow.Author.Needs.{needs}
 use native.Mathlib.Omega.{arith}
 use Prim.Native.Nat.{_+_, _≤_}
 use lib.ListN.{length, length-set}
 use Rattle.model.specs.Tables.{itemWords}
 use Rattle.decode.proofs.Written.{Writing, writing-start, writing-length, writing-done, writing-room, writing-fits, writing-more}
-use Rattle.decode.proofs.put_items.Statement.{statement}
-use Rattle.decode.proofs.put_items.Tie as tie
+use Rattle.decode.proofs.sides.put_items.Statement.{statement}
+use Rattle.decode.proofs.sides.put_items.Tie as tie
 
 abbrev Inv-loop : tie.InvT-loop
 Inv-loop bytes at items slot₀ place pos₀ to₀ left₀ slot pos to left = Writing bytes at items place slot₀ slot pos to left

@@ -1,12 +1,12 @@
--- `decode::side_at` meets its contract: the bytes left, and the patterns still to be read, say the rest of the side.
+-- `decode::sides::side_at` meets its contract: the bytes left, and the patterns still to be read, say the rest of the side.
 use borrow.Author.Needs.{needs}
 use native.Mathlib.Omega.{arith}
 use Prim.Native.Nat.{_+_, _-_, _≤_}
 use lib.ListN.{length}
 use Rattle.model.specs.Limits.{childLimit, itemLimit}
 use Rattle.decode.proofs.Found.{Walk, walk-start, walk-over, walk-none, walk-fits, walk-more, walk-done}
-use Rattle.decode.proofs.side_at.Statement.{statement}
-use Rattle.decode.proofs.side_at.Tie as tie
+use Rattle.decode.proofs.sides.side_at.Statement.{statement}
+use Rattle.decode.proofs.sides.side_at.Tie as tie
 
 abbrev Inv-loop : tie.InvT-loop
 Inv-loop bytes at pos₀ n₀ pending₀ pos n pending = Walk bytes at pos n pending

@@ -1,10 +1,10 @@
--- `decode::part_at` meets its contract, by the cases of the first byte.
+-- `decode::sides::part_at` meets its contract, by the cases of the first byte.
 use native.Mathlib.Omega.{arith}
 use borrow.Author.Needs.{needs}
 use mathlib.Core.Path.{_∙_}
 use Rattle.decode.proofs.Parts.{none-left, cut-variable, a-variable, no-variable, cut-operator, an-operator, no-operator, no-kind}
-use Rattle.decode.proofs.part_at.Statement.{statement}
-use Rattle.decode.proofs.part_at.Tie as tie
+use Rattle.decode.proofs.sides.part_at.Statement.{statement}
+use Rattle.decode.proofs.sides.part_at.Tie as tie
 
 sub-left : tie.Need-sub-left
 sub-left c = search needs
