@@ -12,11 +12,11 @@ use model::NODE_LIMIT;
 use model::NODE_WORDS;
 use model::RULE_LIMIT;
 use model::RULE_WORDS;
-use tables::take_connection;
 use reports::REPORT_ROOM;
 use reports::put_distance;
 use reports::put_refusal;
 use reports::put_verdict;
+use tables::take_connection;
 use tables::take_node;
 use tables::take_rule;
 use text::put_lines;
@@ -214,7 +214,12 @@ fn close_step(
 }
 
 // What an answered query prints, or a refused one.
-fn put_answer(answer: Answer, line: u64, area: &[u16; AREA_WORDS], room: &mut [u8; TEXT_ROOM]) -> usize
+fn put_answer(
+    answer: Answer,
+    line: u64,
+    area: &[u16; AREA_WORDS],
+    room: &mut [u8; TEXT_ROOM],
+) -> usize
     requires { ⌜ Printable answer (now area) × (length (now area) ≡ programArea) × (length (now room) ≡ textRoom) ⌝ }
     ensures { λ r. ⌜ r ≡ length (answered answer line (now (area .entry))) ⌝ }
     ensures { λ _. ⌜ now (room .exit) ≡ splice (now (room .entry)) 0 (answered answer line (now (area .entry))) ⌝ }

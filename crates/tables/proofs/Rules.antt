@@ -26,8 +26,8 @@ module _ (ws : List ℕ) (n : ℕ) (room : n * ruleWords + ruleWords ≤ length 
   abbrev put : List ℕ
   put = splice ws (n * ruleWords) (slotBy wordsOfRule (part ws (n * ruleWords) ruleWords) (ruleFrame bs))
 
-  long : length put ≡ length ws
-  long = put-long wordsOfRule ruleWords ws n room (ruleFrame bs) (rule-long bs)
+  pub rule-put-long : length (splice ws (n * ruleWords) (slotBy wordsOfRule (part ws (n * ruleWords) ruleWords) (ruleFrame bs))) ≡ length ws
+  rule-put-long = put-long wordsOfRule ruleWords ws n room (ruleFrame bs) (rule-long bs)
 
   pub rule-put : (new : List ℕ) → new ≡ slotBy wordsOfRule (midOf (n * ruleWords) (n * ruleWords + ruleWords - n * ruleWords) ws) (ruleFrame bs) →
       putMid (n * ruleWords) (n * ruleWords + ruleWords - n * ruleWords) ws new ≡ put
@@ -38,7 +38,7 @@ module _ (ws : List ℕ) (n : ℕ) (room : n * ruleWords + ruleWords ≤ length 
 
   same : rulesIn ws n ≡ rulesIn put n
   same =
-      rules-kept ws put n (omega arith) (omega (arith, long))
+      rules-kept ws put n (omega arith) (omega (arith, rule-put-long))
       (λ k d.
       let e : 0 + k ≡ k = omega arith in
       rw e
@@ -46,7 +46,7 @@ module _ (ws : List ℕ) (n : ℕ) (room : n * ruleWords + ruleWords ≤ length 
 
   module _ (rs : List Rule) (p : rulesIn ws n ≡ good rs) where
     table : ruleTable (take (n * ruleWords) put) ≡ good rs
-    table = rules-cut put n (omega (arith, long)) ∙ sym same ∙ p
+    table = rules-cut put n (omega (arith, rule-put-long)) ∙ sym same ∙ p
 
     pub rules-accepted : AcceptedRules (take (n * ruleWords) put)
     rules-accepted = record { rules = rs; are = table }
@@ -67,8 +67,8 @@ module _ (ws : List ℕ) (n : ℕ) (room : n * ruleWords + ruleWords ≤ length 
       unfolding part
       rule-table =
           rules-more (take (n * ruleWords) put) put (part put (n * ruleWords) ruleWords) n
-          (length-take-le (n * ruleWords) put (omega (arith, long))) (omega (arith, long))
-          (length-part put (n * ruleWords) ruleWords (omega (arith, long)))
+          (length-take-le (n * ruleWords) put (omega (arith, rule-put-long))) (omega (arith, rule-put-long))
+          (length-part put (n * ruleWords) ruleWords (omega (arith, rule-put-long)))
           (λ k d. let e : 0 + k ≡ k = omega arith in rw e (getD-take (n * ruleWords) put k 0 d))
           (part-alike put (n * ruleWords) ruleWords)
           ∙ rule-judged

@@ -156,12 +156,11 @@ returns-3 c =
     let f = c .before .before in
     let g = f .before .before .before .before in
     let j = g .before .before in
-    let k = j .before .before .before .before in (
+    let k = j .before .before .before .before in
+    let e =
+    f .join .ensures ∙ ap (λ (x : Connection). classesJoined (at-start k .args .classes .now) (cur x) (nxt x)) (f .before .before .connection-at .ensures) in (
       grew j _ (g .enum-told .given .1),
-      (
-        written k,
-        f .join .ensures ∙ ap (λ (x : Connection). classesJoined (at-start k .args .classes .now) (cur x) (nxt x)) (f .before .before .connection-at .ensures),
-      ),
+      (written k, (e, sofar-more (at-start k .pre .0 .0) (held k) (sym (g .enum-told .given .1) ∙ j .judge-entry .ensures) e)),
     )
 
 pub take-connection-spec : {M : Type 1} → statement M
