@@ -39,14 +39,22 @@ module _ (k : Counts) (nws rws cws classes before after room : List ℕ) (s : St
     pub words-over : programArea < k .offered + length ws → StepIs (opened s o) (Refuses 11) nws rws cws classes after room
     words-over p = subst (λ (x : Turn). StepIs x (Refuses 11) nws rws cws classes after room) (sym (opens true (lt-ltb _ _ p))) refl
 
+    -- the open words, and the new ones behind them
+    behind : k .offered + length ws ≤ length before →
+        take (k .offered + length ws) (splice before (k .offered) ws) ≡ take (k .offered) (splice before (k .offered) ws) ++ ws
+    unfolding part
+    behind r =
+        take-add (k .offered) (length ws) (splice before (k .offered) ws)
+        ∙ ap (λ (x : List ℕ). take (k .offered) (splice before (k .offered) ws) ++ x) (part-written before (k .offered) ws r)
+
     pub words-fit : {end : ℕ} → end ≡ k .offered + length ws → end ≤ programArea → after ≡ splice before (k .offered) ws →
         StepIs (opened s o) (Goes (openWords k end) 0) nws rws cws classes after room
     words-fit {end} q p w =
         let room-for : k .offered + length ws ≤ length before = omega arith in
         let open-now : take end after ≡ s .open-words ++ ws =
         ap₂ take q w
-        ∙ take-add (k .offered) (length ws) (splice before (k .offered) ws)
-        ∙ ap₂ (λ (x y : List ℕ). x ++ y) (take-splice before (k .offered) ws room-for (k .offered) (omega arith) ∙ h .words) (written room-for) in
+        ∙ behind room-for
+        ∙ ap (λ (x : List ℕ). x ++ ws) (take-splice before (k .offered) ws room-for (k .offered) (omega arith) ∙ h .words) in
         subst (λ (x : Turn). StepIs x (Goes (openWords k end) 0) nws rws cws classes after room) (sym (opens false (le-ltb _ _ (omega arith)))) (
           refl,
           refl,
@@ -61,6 +69,3 @@ module _ (k : Counts) (nws rws cws classes before after room : List ℕ) (s : St
             fresh = λ x. absurd (omega arith);
           },
         )
-      where
-        written : k .offered + length ws ≤ length before → part (splice before (k .offered) ws) (k .offered) (length ws) ≡ ws
-        written r = part-written before (k .offered) ws r

@@ -63,7 +63,7 @@ pub enum Step {
 }
 
 // 01: a node.
-fn node_step(counts: Counts, bytes: &[u8], nodes: &mut [u16; NODE_ROOM]) -> Step
+fn node_step(counts: Counts, bytes: &[u8], nodes: &mut [u16]) -> Step
     requires { ⌜ (counts .nodes ≤ nodeLimit) × (length (now nodes) ≡ nodeRoom) ⌝ }
     ensures { λ r. ⌜ NodeStep counts (now (bytes .entry)) (now (nodes .entry)) r (now (nodes .exit)) ⌝ }
 {
@@ -98,9 +98,9 @@ fn ready(classes: &mut [u16], connections: usize)
 fn connection_step(
     counts: Counts,
     bytes: &[u8],
-    nodes: &[u16; NODE_ROOM],
-    conns: &mut [u16; CONNECTION_ROOM],
-    classes: &mut [u16; NODE_LIMIT],
+    nodes: &[u16],
+    conns: &mut [u16],
+    classes: &mut [u16],
 ) -> Step
     requires { ⌜ Held counts (now nodes) (now conns) (now classes) × Rooms (now nodes) (now conns) (now classes) ⌝ }
     ensures { λ r. ⌜ ConnectionStep counts (now (bytes .entry)) (now (nodes .entry)) (now (conns .entry)) (now (classes .entry)) r (now (conns .exit)) (now (classes .exit)) ⌝ }
@@ -126,7 +126,7 @@ fn connection_step(
 }
 
 // Words of an offered proof behind those that are open: 11 where they outgrow the area.
-fn add_words(counts: Counts, words: usize, bytes: &[u8], area: &mut [u16; AREA_WORDS]) -> Step
+fn add_words(counts: Counts, words: usize, bytes: &[u8], area: &mut [u16]) -> Step
     requires { ⌜ (counts .offered ≤ programArea) × (offeredOf (wordsFrame (now bytes)) ≡ Words words) × (length (now area) ≡ programArea) ⌝ }
     ensures { λ r. ⌜ WordsStep counts (now (bytes .entry)) (now (area .entry)) r (now (area .exit)) ⌝ }
 {
@@ -149,7 +149,7 @@ fn add_words(counts: Counts, words: usize, bytes: &[u8], area: &mut [u16; AREA_W
 }
 
 // 05: words of an offered proof.
-fn words_step(counts: Counts, bytes: &[u8], area: &mut [u16; AREA_WORDS]) -> Step
+fn words_step(counts: Counts, bytes: &[u8], area: &mut [u16]) -> Step
     requires { ⌜ (counts .offered ≤ programArea) × (length (now area) ≡ programArea) ⌝ }
     ensures { λ r. ⌜ WordsStep counts (now (bytes .entry)) (now (area .entry)) r (now (area .exit)) ⌝ }
 {
@@ -161,7 +161,7 @@ fn words_step(counts: Counts, bytes: &[u8], area: &mut [u16; AREA_WORDS]) -> Ste
 }
 
 // 02: a rule.
-fn rule_step(counts: Counts, bytes: &[u8], rules: &mut [u16; RULE_ROOM]) -> Step
+fn rule_step(counts: Counts, bytes: &[u8], rules: &mut [u16]) -> Step
     requires { ⌜ RulesHeld (now rules) (counts .rules) × (length (now rules) ≡ ruleRoom) ⌝ }
     ensures { λ r. ⌜ RuleStep counts (now (bytes .entry)) (now (rules .entry)) r (now (rules .exit)) ⌝ }
 {
@@ -186,9 +186,9 @@ fn rule_step(counts: Counts, bytes: &[u8], rules: &mut [u16; RULE_ROOM]) -> Step
 fn close_step(
     counts: Counts,
     bytes: &[u8],
-    rules: &[u16; RULE_ROOM],
-    area: &[u16; AREA_WORDS],
-    room: &mut [u8; TEXT_ROOM],
+    rules: &[u16],
+    area: &[u16],
+    room: &mut [u8],
 ) -> Step
     requires { ⌜ RulesHeld (now rules) (counts .rules) × (length (now rules) ≡ ruleRoom) ⌝ }
     requires { ⌜ (counts .offered ≤ programArea) × (length (now area) ≡ programArea) × (length (now room) ≡ textRoom) ⌝ }
@@ -217,8 +217,8 @@ fn close_step(
 fn put_answer(
     answer: Answer,
     line: u64,
-    area: &[u16; AREA_WORDS],
-    room: &mut [u8; TEXT_ROOM],
+    area: &[u16],
+    room: &mut [u8],
 ) -> usize
     requires { ⌜ Printable answer (now area) × (length (now area) ≡ programArea) × (length (now room) ≡ textRoom) ⌝ }
     ensures { λ r. ⌜ r ≡ length (answered answer line (now (area .entry))) ⌝ }
