@@ -1,7 +1,7 @@
 /* Erbighenti for C: proved explanations of rewritten alert expressions.
    Tables and proofs are runs of 16-bit words, each a pointer and a length in words; their layouts are in crates/model/specs/Tables.antt and Term.antt.
-   No pointer may be null, also where the length is 0. What is lent to be written (`value`, `area`, `distance`, `written`) must not overlap
-   what is lent to be read, nor each other, and nobody may change the words while a call runs. */
+   No pointer may be null, also where the length is 0. What is lent to be written (`value`, `area`, `room`, `distance`, `written`) must not
+   overlap what is lent to be read, nor each other, and nobody may change the words while a call runs. */
 #ifndef ERBIGHENTI_H
 #define ERBIGHENTI_H
 #include <stddef.h>
@@ -25,5 +25,10 @@ uint16_t erbighenti_distance(const uint16_t *nodes, size_t nodes_len, const uint
 uint16_t erbighenti_query(const uint16_t *nodes, size_t nodes_len, const uint16_t *rules, size_t rules_len,
                           const uint16_t *connections, size_t connections_len, uint16_t left, uint16_t right,
                           uint16_t *area, size_t area_len, uint64_t *distance, uint64_t *written);
+
+/* The text of one flat term. Returns document 01's number (11, 12 or 13), 0 for success.
+   Behind `written` stand the bytes written, 0 where it is refused. The text does not end with a zero byte of its own.
+   The room holds the text and zeros behind it; after a refusal it is all zero, whatever it held. */
+uint16_t erbighenti_term_text(const uint16_t *words, size_t words_len, uint8_t *room, size_t room_len, uint64_t *written);
 
 #endif

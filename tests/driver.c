@@ -3,6 +3,8 @@
    With 16 added to what to call, a line has one number more: how many bytes of stack the calls used.
    A query (3) is lent the fourth run as its area. Its line goes on with the words written, how many words behind them are not zero, and
    the words themselves.
+   A text (4) is of the fourth run, into a room of as many bytes as the first of the two numbers says, full of rubbish. Its line goes on with
+   how many bytes behind the text are not zero, and the text's bytes.
    No header of the C library is wanted, so that the toolchain's own compiler is enough. */
 #include "../include/erbighenti.h"
 
@@ -50,6 +52,28 @@ static void done(uint16_t *words, uint32_t length)
     free(all);
 }
 
+/* A room of bytes, with its guards full of what stands in no text. */
+enum { RUBBISH = 'Z' };
+
+static uint8_t *room_of(uint32_t length)
+{
+    uint8_t *all = malloc((size_t)length + 2 * GUARDS);
+    if (all == 0)
+        exit(2);
+    for (size_t k = 0; k < (size_t)length + 2 * GUARDS; k++)
+        all[k] = RUBBISH;
+    return all + GUARDS;
+}
+
+static void left(uint8_t *room, uint32_t length)
+{
+    uint8_t *all = room - GUARDS;
+    for (size_t k = 0; k < GUARDS; k++)
+        if (all[k] != RUBBISH || all[GUARDS + length + k] != RUBBISH)
+            exit(4);
+    free(all);
+}
+
 /* The stack below this function's caller, filled with a pattern by `paint`, and after a call looked at again: what was overwritten was used. */
 enum { DEPTH = 1 << 21, PATTERN = 0xa5 };
 
@@ -88,15 +112,29 @@ static void show_area(const uint16_t *area, uint32_t length, uint64_t written)
         printf(" %u", area[k]);
 }
 
+static void show_room(const uint8_t *room, uint32_t length, uint64_t written)
+{
+    uint32_t behind = 0;
+    for (uint64_t k = written; k < length; k++)
+        behind += room[k] != 0;
+    printf(" %u", behind);
+    for (uint64_t k = 0; k < written && k < length; k++)
+        printf(" %u", room[k]);
+}
+
 int main(void)
 {
     uint32_t head[8];
     while (full(head, sizeof head)) {
         uint16_t *nodes = run(head[1]), *rules = run(head[2]), *connections = run(head[3]), *words = run(head[4]);
         uint64_t value = 0, written = 0;
-        uint64_t tables = sum_of(nodes, head[1]) ^ sum_of(rules, head[2]) * 3 ^ sum_of(connections, head[3]) * 5;
         uint16_t number = 0;
         uint32_t what = head[0] & 15, measured = head[0] & 16;
+        /* the words are read too, but where they are a query's area */
+        uint32_t only_read = what == 3 ? 0 : head[4];
+        uint64_t before = sum_of(nodes, head[1]) ^ sum_of(rules, head[2]) * 3 ^ sum_of(connections, head[3]) * 5 ^ sum_of(words, only_read) * 7;
+        uint32_t bytes = what == 4 ? head[5] : 0;
+        uint8_t *room = room_of(bytes);
         if (measured)
             paint();
         long began = clock();
@@ -109,6 +147,8 @@ int main(void)
             else if (what == 3)
                 number = erbighenti_query(nodes, head[1], rules, head[2], connections, head[3], (uint16_t)head[5], (uint16_t)head[6], words, head[4],
                                           &value, &written);
+            else if (what == 4)
+                number = erbighenti_term_text(words, head[4], room, bytes, &value);
         }
         size_t stack = measured ? used() : 0;
         printf("%u %llu %ld", number, (unsigned long long)value, clock() - began);
@@ -116,11 +156,13 @@ int main(void)
             printf(" %lu", (unsigned long)stack);
         if (what == 3)
             show_area(words, head[4], written);
+        else if (what == 4)
+            show_room(room, bytes, value);
         printf("\n");
-        /* no call changes the tables */
-        if (tables != (sum_of(nodes, head[1]) ^ sum_of(rules, head[2]) * 3 ^ sum_of(connections, head[3]) * 5))
+        /* no call changes what is lent to be read */
+        if (before != (sum_of(nodes, head[1]) ^ sum_of(rules, head[2]) * 3 ^ sum_of(connections, head[3]) * 5 ^ sum_of(words, only_read) * 7))
             exit(3);
-        done(nodes, head[1]), done(rules, head[2]), done(connections, head[3]), done(words, head[4]);
+        done(nodes, head[1]), done(rules, head[2]), done(connections, head[3]), done(words, head[4]), left(room, bytes);
     }
     return 0;
 }

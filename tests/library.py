@@ -2,7 +2,7 @@
 import os, platform, struct, subprocess
 
 TOP = os.path.dirname(os.path.dirname(os.path.abspath(__file__)))
-CHECK, DISTANCE, QUERY = 1, 2, 3
+CHECK, DISTANCE, QUERY, TEXT = 1, 2, 3, 4
 MEASURED = 16                    # added to one of them: how many bytes of stack it used is a fourth number of the answer
 
 
@@ -33,8 +33,14 @@ def case(what, nodes, rules, connections, words=(), left=0, right=0, times=1):
     return struct.pack('<8I', what, *map(len, runs), left, right, times) + b''.join(struct.pack(f'<{len(r)}H', *r) for r in runs)
 
 
+def text(words, room, times=1, what=TEXT):
+    """the text of one term in a room of so many bytes"""
+    return case(what, [], [], [], words, room, times=times)
+
+
 def call(driver, cases):
-    """The answers, (number, value, microseconds) each; behind a query's the words written, how many behind them are not zero, and the words."""
+    """The answers, (number, value, microseconds) each; behind a query's the words written, how many behind them are not zero, and the words;
+    behind a text's, whose value are the bytes written, how many behind them are not zero, and the bytes."""
     out = subprocess.run([os.path.join(TOP, 'launch'), driver], input=b''.join(cases), capture_output=True)
     if out.returncode:
         raise SystemExit(f'the driver ended with status {out.returncode}: {out.stderr[-300:]!r}')

@@ -1,6 +1,6 @@
 -- FROM THE CONTRACTS TO THE CUSTOMER'S SENTENCES, in one step each. Whatever meets the contract of `query`, on arguments a, with result r
 -- and what s leaves with the caller, keeps demands 1 and 3, whatever meets that of `check` demands 1 and 2; and what the one wrote, the other
--- accepts.
+-- accepts. Whatever meets the contract of `term_text` (crate text) keeps demand 1.
 -- The arguments stand in their order: a .0 nodes, a .1 .0 rules, a .1 .1 .0 connections, then left, right and the area; so do those of
 -- `check`, with the words last.
 -- Assumes nothing.
@@ -15,6 +15,7 @@ use lib.Seq.{take-at}
 use Rattle.model.specs.declared.Answer.{Answer}
 use Rattle.model.specs.declared.Answer.the-variants.{Written}
 use Rattle.model.specs.declared.Measured.{Measured}
+use Rattle.model.specs.declared.Printed.{Printed}
 use Rattle.model.specs.declared.Verdict.{Verdict}
 use Rattle.model.specs.declared.Verdict.the-variants.{Accepted, Rejected}
 use Rattle.model.specs.Judged.{Judged, good, bad}
@@ -23,10 +24,12 @@ use Rattle.model.specs.Query.{Tables, distanceOf, proofWords}
 use Rattle.model.specs.Verdict.{Proves}
 use Rattle.model.specs.Tables.{judgeTables, measureBy, answerBy, areaOf, verdictBy}
 use Rattle.checker.proofs.Faults.{demand-1 as first-fault}
-use Rattle.explanation.specs.Demand.{FirstToHold, FirstMeasured, FirstRejected, Asked, Granted}
+use Rattle.explanation.specs.Demand.{FirstToHold, FirstMeasured, FirstRejected, FirstPrinted, Asked, Granted}
 use Rattle.explanation.proofs.Answers.{unmeasured-8, unmeasured-9, unmeasured-10}
 use Rattle.explanation.proofs.DemandThree.{answered, area-kept, bad-tables, demand-3 as grants, refused-10, refused-11, refused-8, refused-9, refused-zero}
 use Rattle.explanation.proofs.DemandTwo.{demand-2 as strict}
+use Rattle.text.proofs.term_text.Reads as term-text
+use Rattle.explanation.proofs.Texts.{first-printed}
 use Rattle.explanation.proofs.distance.Reads as distance
 use Rattle.explanation.proofs.query.Reads as query
 use Rattle.explanation.proofs.check.Reads as check
@@ -97,6 +100,11 @@ pub demand-1-distance : (κs : Lfts 3) (a s : _) (m : Measured) → distance.Pos
 demand-1-distance κs a s m p =
     subst (FirstMeasured (judgeTables (now (a .0)) (now (a .1 .0)) (now (a .1 .1 .0))) (a .1 .1 .1 .0 .0) (a .1 .1 .1 .1 .0 .0)) (sym p)
     (first-measured (now (a .0)) (now (a .1 .0)) (now (a .1 .1 .0)) (a .1 .1 .1 .0 .0) (a .1 .1 .1 .1 .0 .0))
+
+-- DEMAND 1 of `term_text`: a .0 the words, a .1 .0 the room
+pub demand-1-text : (κs : Lfts 2) (a s : _) (r : Printed) → term-text.Post κs a r s →
+    FirstPrinted (now (a .0)) (length (now (a .1 .0))) r (now (s .1 .0))
+demand-1-text κs a s r p = rw (p .0, p .1) (first-printed (now (a .0)) (length (now (a .1 .0))))
 
 -- DEMAND 2 of `check`: n terms are accepted exactly where the words are a strict proof of n terms within the limits
 pub demand-2 : (κs : Lfts 4) (a s : _) (v : Verdict) → check.Post κs a v s → (t : Tables) →

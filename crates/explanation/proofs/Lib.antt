@@ -6,4 +6,5 @@ pub mod DemandThree
 pub mod Inhabited
 pub mod Only
 pub mod Queries
+pub mod Texts
 pub mod Customers

@@ -18,6 +18,7 @@ use Rattle.explanation.proofs.query.Reads as query
 use Rattle.explanation.proofs.erbighenti_check.Reads as check-in-c
 use Rattle.explanation.proofs.erbighenti_distance.Reads as distance-in-c
 use Rattle.explanation.proofs.erbighenti_query.Reads as query-in-c
+use Rattle.explanation.proofs.erbighenti_term_text.Reads as text-in-c
 
 check-only : (κs : Lfts 4) (a s s′ : _) (r r′ : Verdict) → check.Post κs a r s → check.Post κs a r′ s′ → r ≡ r′
 check-only κs a s s′ r r′ p q = p ∙ sym q
@@ -53,3 +54,7 @@ query-in-c-only : (κs : Lfts 6) (a s s′ : _) (r r′ : ℕ) → query-in-c.Po
     × (now (s .1 .1 .1 .1 .1 .1 .1 .0) ≡ now (s′ .1 .1 .1 .1 .1 .1 .1 .0))
 query-in-c-only κs a s s′ r r′ p q =
     (p .0 ∙ sym (q .0), p .1 .1 .1 ∙ sym (q .1 .1 .1), p .1 .0 ∙ sym (q .1 .0), p .1 .1 .0 ∙ sym (q .1 .1 .0))
+
+text-in-c-only : (κs : Lfts 3) (a s s′ : _) (r r′ : ℕ) → text-in-c.Post κs a r s → text-in-c.Post κs a r′ s′ →
+    (r ≡ r′) × (now (s .1 .0) ≡ now (s′ .1 .0)) × (now (s .1 .1 .0) ≡ now (s′ .1 .1 .0))
+text-in-c-only κs a s s′ r r′ p q = (p .0 ∙ sym (q .0), p .1 .1 ∙ sym (q .1 .1), p .1 .0 ∙ sym (q .1 .0))

@@ -2,7 +2,7 @@
 -- Assumes nothing.
 use Prim.Native.Nat.{ℕ, suc, _-_, _≤_, _<_}
 use mathlib.Core.Bool.{false}
-use mathlib.Core.List.{List, _++_}
+use mathlib.Core.List.{List, [], _++_}
 use mathlib.Core.Logic.{_⊎_, _↔_}
 use mathlib.Core.Path.{_≡_}
 use lib.ListN.{length, replicate}
@@ -10,11 +10,13 @@ use Rattle.model.specs.declared.Answer.{Answer}
 use Rattle.model.specs.declared.Answer.the-variants.{Written, Refused}
 use Rattle.model.specs.declared.Measured.{Measured}
 use Rattle.model.specs.declared.Measured.the-variants.{Unmeasured}
+use Rattle.model.specs.declared.Printed.{Printed}
+use Rattle.model.specs.declared.Printed.the-variants.{Bytes, NoText}
 use Rattle.model.specs.declared.Verdict.{Verdict}
 use Rattle.model.specs.declared.Verdict.the-variants.{Accepted, Rejected}
 use Rattle.model.specs.Limits.{distanceLimit, wordLimit}
 use Rattle.model.specs.Judged.{Judged, good, bad}
-use Rattle.model.specs.Term.{one, count, strip}
+use Rattle.model.specs.Term.{Term, one, count, strip, Reads}
 use Rattle.model.specs.Step.{someMark, isMark}
 use Rattle.model.specs.Node.{termOf}
 use Rattle.model.specs.Forest.{Linked}
@@ -22,6 +24,7 @@ use Rattle.model.specs.Flat.{later}
 use Rattle.model.specs.Premise.{Premise}
 use Rattle.model.specs.Query.{Tables, distanceOf, proofOf, proofWords}
 use Rattle.model.specs.Tables.{answerBy, areaOf, verdictBy}
+use Rattle.model.specs.Text.{text}
 use Rattle.checker.specs.Fault.{FirstFault}
 use Rattle.flat.specs.Ends.{first, last}
 use Rattle.flat.specs.Marks.{OneMarkEach}
@@ -65,6 +68,27 @@ pub record FirstMeasured (j : Judged Tables) (l r : ℕ) (m : Measured) : Type 0
 pub record FirstRejected (j : Judged Tables) (ws : List ℕ) (v : Verdict) : Type 0 where
   pub tables : (n : ℕ) → j ≡ bad n → v ≡ Rejected n 0
   pub rejected : (t : Tables) → j ≡ good t → (n k : ℕ) → (v ≡ Rejected n k) ↔ FirstFault (t .rules) ws n k
+
+-- "12, 13 (also for a second term), then 11 if its bytes exceed the lent room": words of one term, and those whose text exceeds a room
+pub record OneTerm (ws : List ℕ) : Type 0 where
+  pub term : Term
+  pub reads : Reads ws (one term)
+
+pub record Longer (ws : List ℕ) (room : ℕ) : Type 0 where
+  pub says : OneTerm ws
+  pub exceeds : room < length (text (one (says .term)))
+
+-- and of the text p of a term in a room of so many bytes, and what the room then holds: each number exactly where its condition is the first
+-- to hold; a text that fits stands in front of the room, with zeros behind it; after a refusal the room is all zero, and it is always as long
+-- as it was
+pub record FirstPrinted (ws : List ℕ) (room : ℕ) (p : Printed) (after : List ℕ) : Type 0 where
+  pub is-12 : (p ≡ NoText 12) ↔ (ws ≡ [])
+  pub is-13 : (p ≡ NoText 13) ↔ ((ws ≡ [] → ⊥) × (OneTerm ws → ⊥))
+  pub is-11 : (p ≡ NoText 11) ↔ Longer ws room
+  pub spelled : (t : Term) → Reads ws (one t) → length (text (one t)) ≤ room
+      → (p ≡ Bytes (length (text (one t)))) × (after ≡ text (one t) ++ replicate (room - length (text (one t))) 0)
+  pub zero : (n : ℕ) → p ≡ NoText n → after ≡ replicate room 0
+  pub kept : length after ≡ room
 
 -- what a query needs to be answered: none of these holds
 pub record Asked (t : Tables) (area l r : ℕ) : Type 0 where

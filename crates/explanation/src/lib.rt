@@ -8,6 +8,7 @@ use model::Measured;
 use model::NODE_LIMIT;
 use model::NODE_WORDS;
 use model::NodeNo;
+use model::Printed;
 use model::Verdict;
 use model::WORD_LIMIT;
 use model::wide;
@@ -19,6 +20,7 @@ ghost use Rattle.model.specs.Judged.{judgementOf};
 ghost use Rattle.model.specs.declared.Measured.the-variants.{Distance};
 ghost use Rattle.model.specs.Query.{measureReport, answerReport};
 ghost use Rattle.model.specs.Tables.{nodeWords, connectionWords, judgeTables, measureBy, answerBy, areaOf, verdictBy};
+ghost use Rattle.model.specs.Text.{textReport, termText, roomAfter};
 ghost use Rattle.model.specs.Verdict.{reportOf};
 ghost use Rattle.entries.specs.Connections.{Supported};
 ghost use Rattle.entries.specs.Nodes.{NodesWhole};
@@ -115,24 +117,16 @@ fn write_answer(
     requires { ⌜ Measures (now nodes) (now connections) (left .0) (right .0) (Distance distance) × Ways (now nodes) (now connections) (left .0) (right .0) (now rows) ⌝ }
     ensures { λ r. ⌜ Answers (now (nodes .entry)) (now (connections .entry)) (now (area .entry)) (left .0) (right .0) r (now (area .exit)) ⌝ }
 {
-    let mut sizes = [0u32; NODE_LIMIT];
-    trees::fill_sizes(nodes, &mut sizes);
-    let w = needs::words_needed(nodes, connections, rows, &sizes, left, right);
+    let mut size = [0u32; NODE_LIMIT];
+    trees::fill_sizes(nodes, &mut size);
+    let w = needs::words_needed(nodes, connections, rows, &size, left, right);
     if w > WORD_LIMIT {
         return Answer::Refused(11);
     }
     if w > area.len() {
         return Answer::Refused(11);
     }
-    writer::write_proof(
-        nodes,
-        connections,
-        rows,
-        &sizes,
-        &mut area[..w],
-        left,
-        right,
-    );
+    writer::write_proof(nodes, connections, rows, &size, &mut area[..w], left, right);
     Answer::Written(distance, w)
 }
 
@@ -276,6 +270,26 @@ pub extern "C" fn erbighenti_query(
         }
         Answer::Refused(number) => {
             *distance = 0;
+            *written = 0;
+            number
+        }
+    }
+}
+
+// The text of one term for C: the number is returned (0 for success), the bytes written stand behind `written` (0 where it is refused).
+#[no_mangle]
+pub extern "C" fn erbighenti_term_text(words: &[u16], room: &mut [u8], written: &mut u64) -> u16
+    ensures { λ r. ⌜ r ≡ textReport (termText (now (words .entry)) (length (now (room .entry)))) .number ⌝ }
+    ensures { λ _. ⌜ now (written .exit) ≡ textReport (termText (now (words .entry)) (length (now (room .entry)))) .written ⌝ }
+    ensures { λ _. ⌜ now (room .exit) ≡ roomAfter (now (words .entry)) (length (now (room .entry))) ⌝ }
+{
+    let printed = text::term_text(words, room);
+    match printed {
+        Printed::Bytes(n) => {
+            *written = n as u64;
+            0
+        }
+        Printed::NoText(number) => {
             *written = 0;
             number
         }
