@@ -3,3 +3,4 @@ pub mod Put
 pub mod Nodes
 pub mod Rules
 pub mod Connections
+pub mod Only

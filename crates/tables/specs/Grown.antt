@@ -20,7 +20,11 @@ pub record Grown {A : Type 0} (j : Judged A) (r : Judgement) (table : Judged A) 
   pub says : r ≡ judgementOf j
   pub holds : r ≡ Taken → table ≡ j
 
--- a node: what the table held and holds
+-- a node, behind accepted ones: what the table held and holds
+pub record NodesHeld (nws : List ℕ) (n : ℕ) : Type 0 where
+  pub nodes : List Node
+  pub are : nodesTo nws n ≡ good nodes
+
 abbrev pub NodesGrown : List ℕ → List ℕ → ℕ → Judgement → List ℕ → Type 0
 NodesGrown before bytes n r after =
     (ns : List Node) → nodesTo before n ≡ good ns → Grown (addNode ns (nodeFrame bytes)) r (nodesTo after (suc n))

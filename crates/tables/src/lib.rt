@@ -16,7 +16,6 @@ ghost use mathlib.Core.Path.{_≡_};
 ghost use Prim.Native.Nat.{_+_, _-_, _*_, _≤_};
 ghost use lib.ListN.{length, take};
 ghost use Rattle.model.specs.Judged.{judgementOf};
-ghost use Rattle.model.specs.Limits.{nodeLimit};
 ghost use Rattle.model.specs.Frame.{nodeFrame, ruleFrame, connectionFrame};
 ghost use Rattle.model.specs.Tables.{nodeWords, ruleWords, connectionWords};
 ghost use Rattle.laws.specs.Area.{splice, part};
@@ -25,11 +24,11 @@ ghost use Rattle.rule_table.specs.Entries.{AcceptedRules, entryOf, withEntry};
 ghost use Rattle.entries.specs.Nodes.{NodesWhole};
 ghost use Rattle.connections.specs.Classes.{Sofar};
 ghost use Rattle.decode.specs.Slot.{slotBy};
-ghost use Rattle.tables.specs.Grown.{NodesGrown, RulesHeld, RulesGrown, ConnectionsGrown, Onward, classesAfter};
+ghost use Rattle.tables.specs.Grown.{NodesHeld, NodesGrown, RulesHeld, RulesGrown, ConnectionsGrown, Onward, classesAfter};
 
 // A node behind the first `n`.
 pub fn take_node(nodes: &mut [u16], n: usize, bytes: &[u8]) -> Judgement
-    requires { ⌜ (n ≤ nodeLimit) × (n * nodeWords + nodeWords ≤ length (now nodes)) ⌝ }
+    requires { ⌜ NodesHeld (now nodes) n × (n * nodeWords + nodeWords ≤ length (now nodes)) ⌝ }
     ensures { λ r. ⌜ NodesGrown (now (nodes .entry)) (now (bytes .entry)) n r (now (nodes .exit)) ⌝ }
     ensures { λ _. ⌜ now (nodes .exit) ≡ splice (now (nodes .entry)) (n * nodeWords) (slotBy wordsOfNode (part (now (nodes .entry)) (n * nodeWords) nodeWords) (nodeFrame (now (bytes .entry)))) ⌝ }
 {

@@ -10,6 +10,7 @@ use Rattle.model.specs.Tables.{nodeWords, nodeEntry}
 use Rattle.laws.specs.Area.{splice, part}
 use Rattle.layouts.specs.Words.{wordsOfNode}
 use Rattle.entries.specs.Nodes.{nodesTo, firstNodes}
+use Rattle.entries.proofs.Nodes.{nodes}
 use Rattle.decode.specs.Slot.{slotBy}
 use Rattle.tables.proofs.Slots.{says-some, says-none, grown-bad, grown}
 use Rattle.tables.proofs.Nodes.{node-put, node-table, node-judged}
@@ -65,7 +66,7 @@ returns c =
     (λ ns p. grown-bad (ap (addNode ns) e), written k)
 
 judge-node-requires : tie.Need-judge-node-requires
-judge-node-requires c κs = search needs
+judge-node-requires c κs = let s = at-start (c .before .before) in nodes (s .args .nodes .now) (s .args .n) (s .pre .0 .nodes) (s .pre .0 .are) .stand .few
 
 same-length-2 : tie.Need-same-length-2
 same-length-2 c = search needs
