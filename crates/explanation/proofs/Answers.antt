@@ -14,7 +14,7 @@ use Rattle.model.specs.declared.Measured.the-variants.{Distance, Unmeasured}
 use Rattle.model.specs.Limits.{distanceLimit, wordLimit}
 use Rattle.model.specs.Forest.{Linked, joined}
 use Rattle.model.specs.Flat.{needed}
-use Rattle.model.specs.Query.{Tables, distanceOf, proofWords, measure, writtenIf, answer}
+use Rattle.model.specs.Query.{Tables, distanceIn, proofWords, measure, writtenIf, answer}
 use Rattle.paths.proofs.Joined.{joined-linked}
 use Rattle.flat.specs.Accepted.{AcceptedTables}
 use Rattle.flat.proofs.Delivered.{delivered}
@@ -61,32 +61,32 @@ module _ (t : Tables) (l r : ℕ) where
     is-9 area a = by-number area 9 (apart t l r (k .left) (k .right) (parts a))
 
     module _ (j : Linked (t .conns) l r) where
-      pub is-10 : (area : ℕ) → distanceLimit < distanceOf t l r → answer t area l r ≡ Refused 10
+      pub is-10 : (area : ℕ) → distanceLimit < distanceIn t l r → answer t area l r ≡ Refused 10
       is-10 area h = by-number area 10 (long t l r (k .left) (k .right) (joins j) h)
 
-      module _ (ok : AcceptedTables t) (h : distanceOf t l r ≤ distanceLimit) (area : ℕ) where
+      module _ (ok : AcceptedTables t) (h : distanceIn t l r ≤ distanceLimit) (area : ℕ) where
         abbrev w : ℕ
         w = length (proofWords t l r)
 
-        distance : answer t area l r ≡ writtenIf (ltb area w || ltb wordLimit w) (distanceOf t l r) w
+        distance : answer t area l r ≡ writtenIf (ltb area w || ltb wordLimit w) (distanceIn t l r) w
         distance =
             rw (delivered t ok l r j .written)
-            (by-distance area (distanceOf t l r) (near t l r (k .left) (k .right) (joins j) h))
+            (by-distance area (distanceIn t l r) (near t l r (k .left) (k .right) (joins j) h))
 
         pub is-11 : Exceeds t area l r → answer t area l r ≡ Refused 11
         is-11 (inl o) = distance ∙ rw (lt-ltb area w o) refl
         is-11 (inr o) = distance ∙ rw (lt-ltb wordLimit w o, or-true (ltb area w)) refl
 
         pub is-written : length (proofWords t l r) ≤ area → length (proofWords t l r) ≤ wordLimit
-            → answer t area l r ≡ Written (distanceOf t l r) (length (proofWords t l r))
+            → answer t area l r ≡ Written (distanceIn t l r) (length (proofWords t l r))
         is-written f b = distance ∙ rw (le-ltb area w f, le-ltb wordLimit w b) refl
 
 -- one of the five cases holds
 pub data Case (t : Tables) (area l r : ℕ) : Type 0 where
   by-8 : Missing t l r → Case t area l r
   by-9 : Known t l r → Unlinked t l r → Case t area l r
-  by-10 : Known t l r → Linked (t .conns) l r → distanceLimit < distanceOf t l r → Case t area l r
-  by-11 : Known t l r → Linked (t .conns) l r → distanceOf t l r ≤ distanceLimit → Exceeds t area l r → Case t area l r
+  by-10 : Known t l r → Linked (t .conns) l r → distanceLimit < distanceIn t l r → Case t area l r
+  by-11 : Known t l r → Linked (t .conns) l r → distanceIn t l r ≤ distanceLimit → Exceeds t area l r → Case t area l r
   fit : Asked t area l r → Case t area l r
 
 pub cases : (t : Tables) (area l r : ℕ) → Case t area l r
@@ -99,7 +99,7 @@ cases t area l r =
     w : ℕ
     w = length (proofWords t l r)
 
-    linked : Known t l r → Linked (t .conns) l r → distanceOf t l r ≤ distanceLimit → Case t area l r
+    linked : Known t l r → Linked (t .conns) l r → distanceIn t l r ≤ distanceLimit → Case t area l r
     linked k j d =
         ⊎-elim
         (λ f. ⊎-elim (λ b. fit (record { known = k; linked = j; near = d; fits = f; few = b })) (λ o. by-11 k j d (inr o)) (order w wordLimit))
@@ -112,7 +112,7 @@ cases t area l r =
         by : (b : Bool) → joined (t .conns) l r ≡ b → Case t area l r
         by true e =
             let j = joined-linked (t .conns) l r .0 e in
-            ⊎-elim (λ d. linked k j d) (λ far. by-10 k j far) (order (distanceOf t l r) distanceLimit)
+            ⊎-elim (λ d. linked k j d) (λ far. by-10 k j far) (order (distanceIn t l r) distanceLimit)
         by false e = by-9 k (λ j. false≢true (sym e ∙ joins t l r j))
 
 -- 8, 9, 10 OF A DISTANCE, EACH EXACTLY WHERE ITS CONDITION IS THE FIRST TO HOLD
@@ -124,10 +124,10 @@ module _ (t : Tables) (l r : ℕ) where
   measured-9 : Known t l r → Unlinked t l r → measure t l r ≡ Unmeasured 9
   measured-9 k a = sym (apart t l r (k .left) (k .right) (parts t l r a))
 
-  measured-10 : Known t l r → Linked (t .conns) l r → distanceLimit < distanceOf t l r → measure t l r ≡ Unmeasured 10
+  measured-10 : Known t l r → Linked (t .conns) l r → distanceLimit < distanceIn t l r → measure t l r ≡ Unmeasured 10
   measured-10 k j h = sym (long t l r (k .left) (k .right) (joins t l r j) h)
 
-  measured : Known t l r → Linked (t .conns) l r → distanceOf t l r ≤ distanceLimit → measure t l r ≡ Distance (distanceOf t l r)
+  measured : Known t l r → Linked (t .conns) l r → distanceIn t l r ≤ distanceLimit → measure t l r ≡ Distance (distanceIn t l r)
   measured k j h = sym (near t l r (k .left) (k .right) (joins t l r j) h)
 
   -- the number that a case gives
@@ -165,10 +165,10 @@ module _ (t : Tables) (l r : ℕ) where
       pick (by-11 k j d o) e = absurd (omega arith)
       pick (fit a) e = absurd (omega arith)
 
-  pub unmeasured-10 : (measure t l r ≡ Unmeasured 10) ↔ (Known t l r × Linked (t .conns) l r × (distanceLimit < distanceOf t l r))
+  pub unmeasured-10 : (measure t l r ≡ Unmeasured 10) ↔ (Known t l r × Linked (t .conns) l r × (distanceLimit < distanceIn t l r))
   unmeasured-10 = (λ e. pick (cases t 0 l r) (tells 10 e (cases t 0 l r)), λ h. measured-10 (h .0) (h .1) (h .2))
     where
-      pick : (c : Case t 0 l r) → unmeasured c ≡ 10 → Known t l r × Linked (t .conns) l r × (distanceLimit < distanceOf t l r)
+      pick : (c : Case t 0 l r) → unmeasured c ≡ 10 → Known t l r × Linked (t .conns) l r × (distanceLimit < distanceIn t l r)
       pick (by-8 u) e = absurd (omega arith)
       pick (by-9 k a) e = absurd (omega arith)
       pick (by-10 k j d) e = (k, j, d)
@@ -212,10 +212,10 @@ module _ (t : Tables) (ok : AcceptedTables t) (area l r : ℕ) where
       pick (by-11 k j d o) e = absurd (omega arith)
       pick (fit a) e = absurd (omega arith)
 
-  pub refused-10 : (answer t area l r ≡ Refused 10) ↔ (Known t l r × Linked (t .conns) l r × (distanceLimit < distanceOf t l r))
+  pub refused-10 : (answer t area l r ≡ Refused 10) ↔ (Known t l r × Linked (t .conns) l r × (distanceLimit < distanceIn t l r))
   refused-10 = (λ e. pick (cases t area l r) (told 10 e (cases t area l r)), λ h. is-10 t l r (h .0) (h .1) area (h .2))
     where
-      pick : (c : Case t area l r) → number c ≡ 10 → Known t l r × Linked (t .conns) l r × (distanceLimit < distanceOf t l r)
+      pick : (c : Case t area l r) → number c ≡ 10 → Known t l r × Linked (t .conns) l r × (distanceLimit < distanceIn t l r)
       pick (by-8 u) e = absurd (omega arith)
       pick (by-9 k a) e = absurd (omega arith)
       pick (by-10 k j d) e = (k, j, d)
@@ -223,11 +223,11 @@ module _ (t : Tables) (ok : AcceptedTables t) (area l r : ℕ) where
       pick (fit a) e = absurd (omega arith)
 
   pub refused-11 : (answer t area l r ≡ Refused 11)
-      ↔ (Known t l r × Linked (t .conns) l r × (distanceOf t l r ≤ distanceLimit) × Exceeds t area l r)
+      ↔ (Known t l r × Linked (t .conns) l r × (distanceIn t l r ≤ distanceLimit) × Exceeds t area l r)
   refused-11 = (λ e. pick (cases t area l r) (told 11 e (cases t area l r)), λ h. is-11 t l r (h .0) (h .1) ok (h .2) area (h .3))
     where
       pick : (c : Case t area l r) → number c ≡ 11
-          → Known t l r × Linked (t .conns) l r × (distanceOf t l r ≤ distanceLimit) × Exceeds t area l r
+          → Known t l r × Linked (t .conns) l r × (distanceIn t l r ≤ distanceLimit) × Exceeds t area l r
       pick (by-8 u) e = absurd (omega arith)
       pick (by-9 k a) e = absurd (omega arith)
       pick (by-10 k j d) e = absurd (omega arith)

@@ -20,7 +20,7 @@ use Rattle.model.specs.declared.Verdict.{Verdict}
 use Rattle.model.specs.declared.Verdict.the-variants.{Accepted, Rejected}
 use Rattle.model.specs.Judged.{Judged, good, bad}
 use Rattle.model.specs.Premise.{Premise}
-use Rattle.model.specs.Query.{Tables, distanceOf, proofWords}
+use Rattle.model.specs.Query.{Tables, distanceIn, proofWords}
 use Rattle.model.specs.Verdict.{Proves}
 use Rattle.model.specs.Tables.{judgeTables, measureBy, answerBy, areaOf, verdictBy}
 use Rattle.checker.proofs.Faults.{demand-1 as first-fault}
@@ -57,7 +57,7 @@ module _ (nws rws cws : List ℕ) (area l r : ℕ) where
       let g = grants nws rws cws t e area l r (answered nws rws cws t e area l r d w (sym k)) in
       let f = k ∙ g .answers in
       let n : length (proofWords t l r) ≡ w = cc in
-      let m : suc (distanceOf t l r) ≡ suc d = cc in
+      let m : suc (distanceIn t l r) ≡ suc d = cc in
       ap (verdictBy (judgeTables nws rws cws)) (ap (take w) (g .lent) ∙ take-at (proofWords t l r) _ w n) ∙ (g .accepted p ∙ ap Accepted m)
 
 -- DEMAND 1 of `query`

@@ -14,7 +14,7 @@ use Rattle.model.specs.declared.Verdict.the-variants.{Rejected}
 use Rattle.model.specs.Limits.{distanceLimit}
 use Rattle.model.specs.Judged.{Judged, good, bad}
 use Rattle.model.specs.Forest.{Linked}
-use Rattle.model.specs.Query.{Tables, distanceOf, proofWords, areaBy, areaAfter}
+use Rattle.model.specs.Query.{Tables, distanceIn, proofWords, areaBy, areaAfter}
 use Rattle.model.specs.Tables.{judgeTables, answerBy, areaOf, verdictBy}
 use Rattle.flat.specs.Accepted.{AcceptedTables}
 use Rattle.flat.proofs.Tables.{tables-accepted}
@@ -42,7 +42,7 @@ module _ (nws rws cws : List ℕ) (t : Tables) (are : judgeTables nws rws cws �
         plain = d .between .plain;
         arrives = d .between .arrives;
         marked = d .marked;
-        accepted = λ p. demand-2 nws rws cws t are (proofWords t l r) (suc (distanceOf t l r)) .1 (d .proves p (a .near) (a .few));
+        accepted = λ p. demand-2 nws rws cws t are (proofWords t l r) (suc (distanceIn t l r)) .1 (d .proves p (a .near) (a .few));
       }
 
   -- an answer is given only then
@@ -56,11 +56,11 @@ module _ (nws rws cws : List ℕ) (t : Tables) (are : judgeTables nws rws cws �
   refused-9 = rw are (answers.refused-9 t ok area l r)
 
   pub refused-10 : (answerBy (judgeTables nws rws cws) area l r ≡ Refused 10)
-      ↔ (Known t l r × Linked (t .conns) l r × (distanceLimit < distanceOf t l r))
+      ↔ (Known t l r × Linked (t .conns) l r × (distanceLimit < distanceIn t l r))
   refused-10 = rw are (answers.refused-10 t ok area l r)
 
   pub refused-11 : (answerBy (judgeTables nws rws cws) area l r ≡ Refused 11)
-      ↔ (Known t l r × Linked (t .conns) l r × (distanceOf t l r ≤ distanceLimit) × Exceeds t area l r)
+      ↔ (Known t l r × Linked (t .conns) l r × (distanceIn t l r ≤ distanceLimit) × Exceeds t area l r)
   refused-11 = rw are (answers.refused-11 t ok area l r)
 
 -- "a query or check over bad ones returns that number"

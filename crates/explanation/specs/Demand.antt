@@ -22,7 +22,7 @@ use Rattle.model.specs.Node.{termOf}
 use Rattle.model.specs.Forest.{Linked}
 use Rattle.model.specs.Flat.{later}
 use Rattle.model.specs.Premise.{Premise}
-use Rattle.model.specs.Query.{Tables, distanceOf, proofOf, proofWords}
+use Rattle.model.specs.Query.{Tables, distanceIn, proofOf, proofWords}
 use Rattle.model.specs.Tables.{answerBy, areaOf, verdictBy}
 use Rattle.model.specs.Text.{text}
 use Rattle.checker.specs.Fault.{FirstFault}
@@ -51,9 +51,9 @@ pub record FirstToHold (j : Judged Tables) (area l r : ℕ) (a : Answer) (after 
   pub tables : (n : ℕ) → j ≡ bad n → a ≡ Refused n
   pub is-8 : (t : Tables) → j ≡ good t → (a ≡ Refused 8) ↔ Missing t l r
   pub is-9 : (t : Tables) → j ≡ good t → (a ≡ Refused 9) ↔ (Known t l r × Unlinked t l r)
-  pub is-10 : (t : Tables) → j ≡ good t → (a ≡ Refused 10) ↔ (Known t l r × Linked (t .conns) l r × (distanceLimit < distanceOf t l r))
+  pub is-10 : (t : Tables) → j ≡ good t → (a ≡ Refused 10) ↔ (Known t l r × Linked (t .conns) l r × (distanceLimit < distanceIn t l r))
   pub is-11 : (t : Tables) → j ≡ good t
-      → (a ≡ Refused 11) ↔ (Known t l r × Linked (t .conns) l r × (distanceOf t l r ≤ distanceLimit) × Exceeds t area l r)
+      → (a ≡ Refused 11) ↔ (Known t l r × Linked (t .conns) l r × (distanceIn t l r ≤ distanceLimit) × Exceeds t area l r)
   pub zero : (n : ℕ) → a ≡ Refused n → after ≡ replicate area 0
   pub kept : length after ≡ area
 
@@ -62,7 +62,7 @@ pub record FirstMeasured (j : Judged Tables) (l r : ℕ) (m : Measured) : Type 0
   pub tables : (n : ℕ) → j ≡ bad n → m ≡ Unmeasured n
   pub is-8 : (t : Tables) → j ≡ good t → (m ≡ Unmeasured 8) ↔ Missing t l r
   pub is-9 : (t : Tables) → j ≡ good t → (m ≡ Unmeasured 9) ↔ (Known t l r × Unlinked t l r)
-  pub is-10 : (t : Tables) → j ≡ good t → (m ≡ Unmeasured 10) ↔ (Known t l r × Linked (t .conns) l r × (distanceLimit < distanceOf t l r))
+  pub is-10 : (t : Tables) → j ≡ good t → (m ≡ Unmeasured 10) ↔ (Known t l r × Linked (t .conns) l r × (distanceLimit < distanceIn t l r))
 
 -- and of the verdict v on words: bad tables before all else, at place 0; then each number and place exactly where that fault is the first
 pub record FirstRejected (j : Judged Tables) (ws : List ℕ) (v : Verdict) : Type 0 where
@@ -94,7 +94,7 @@ pub record FirstPrinted (ws : List ℕ) (room : ℕ) (p : Printed) (after : List
 pub record Asked (t : Tables) (area l r : ℕ) : Type 0 where
   pub known : Known t l r
   pub linked : Linked (t .conns) l r
-  pub near : distanceOf t l r ≤ distanceLimit
+  pub near : distanceIn t l r ≤ distanceLimit
   pub fits : length (proofWords t l r) ≤ area
   pub few : length (proofWords t l r) ≤ wordLimit
 
@@ -102,11 +102,11 @@ pub record Asked (t : Tables) (area l r : ℕ) : Type 0 where
 -- and zeros behind them; the proof has distance + 1 terms, from the left node's, unmarked, to the right node's, with one mark in
 -- each later term; and where each rule connection is an instance of its listed rule, the strict checker accepts the words.
 pub record Granted (j : Judged Tables) (t : Tables) (area l r : ℕ) : Type 0 where
-  pub answers : answerBy j area l r ≡ Written (distanceOf t l r) (length (proofWords t l r))
+  pub answers : answerBy j area l r ≡ Written (distanceIn t l r) (length (proofWords t l r))
   pub lent : areaOf j area l r ≡ proofWords t l r ++ replicate (area - length (proofWords t l r)) 0
-  pub terms : count (proofOf t l r) ≡ suc (distanceOf t l r)
+  pub terms : count (proofOf t l r) ≡ suc (distanceIn t l r)
   pub starts : first (proofOf t l r) ≡ one (termOf (t .nodes) l)
   pub plain : someMark isMark (first (proofOf t l r)) ≡ false
   pub arrives : strip (last (proofOf t l r)) ≡ one (termOf (t .nodes) r)
   pub marked : OneMarkEach (later (t .nodes) (t .conns) l r)
-  pub accepted : Premise (t .rules) (t .nodes) (t .conns) → verdictBy j (proofWords t l r) ≡ Accepted (suc (distanceOf t l r))
+  pub accepted : Premise (t .rules) (t .nodes) (t .conns) → verdictBy j (proofWords t l r) ≡ Accepted (suc (distanceIn t l r))

@@ -25,8 +25,8 @@ abbrev pub noTables : Tables
 noTables = record { nodes = []; rules = []; conns = [] }
 
 -- The distance of a pair, its flat proof and that proof's words.
-abbrev pub distanceOf : Tables → ℕ → ℕ → ℕ
-distanceOf t l r = dist (t .nodes) (t .conns) l r
+abbrev pub distanceIn : Tables → ℕ → ℕ → ℕ
+distanceIn t l r = dist (t .nodes) (t .conns) l r
 
 abbrev pub proofOf : Tables → ℕ → ℕ → Terms
 proofOf t l r = flatProof (t .nodes) (t .conns) l r
@@ -45,7 +45,7 @@ unfolding joined dist
 measure t l r =
     unless (not (ltb l (length (t .nodes)) && ltb r (length (t .nodes)))) 8 λ _.
     unless (not (joined (t .conns) l r)) 9 λ _.
-    let d = distanceOf t l r in
+    let d = distanceIn t l r in
     unless (ltb distanceLimit d) 10 λ _.
     Distance d
 

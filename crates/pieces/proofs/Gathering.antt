@@ -10,7 +10,7 @@ use lib.ListN.{length, getD, set, drop, length-append, length-take, drop-of-leng
 use lib.Seq.{drop-cons, take-all, take-nil, take-append-le}
 use Rattle.model.specs.Run.{lineFeed}
 use Rattle.laws.specs.Area.{splice}
-use Rattle.laws.proofs.Area.{splice-none, splice-push}
+use Rattle.laws.proofs.Area.{splice-none, splice-push, length-splice}
 use Rattle.pieces.specs.declared.Gathered.{Gathered}
 use Rattle.pieces.specs.Line.{upToFeed, hasFeed, keptLimit, fitting, lineEnd, gathered}
 
@@ -72,6 +72,9 @@ module _ {piece old new : List ℕ} {from held i kept : ℕ} (room : held ≤ ke
     (g : Gathering piece old new from held i kept) where
   in-room : held + length (fitting held (g .front)) ≤ keptLimit
   in-room = omega (arith, length-take (keptLimit - held) (g .front))
+
+  pub gathering-long : length new ≡ length old
+  gathering-long = ap length (g .written) ∙ length-splice old held (fitting held (g .front)) (omega (arith, in-room))
 
   -- the turn's byte, stored or passed over
   module _ (here : i < length piece) (other : getD piece i 0 ≡ lineFeed → ⊥) where

@@ -20,7 +20,7 @@ pub struct Gathered {
 
 // Takes the bytes of a piece from a place on into the line, up to a line feed or the piece's end. Bytes for which the line has no
 // room are passed over.
-pub fn gather(piece: &[u8], from: usize, line: &mut [u8; KEPT_LIMIT], held: usize) -> Gathered
+pub fn gather(piece: &[u8], from: usize, line: &mut [u8], held: usize) -> Gathered
     requires { ⌜ (from ≤ length (now piece)) × (held ≤ keptLimit) × (length (now line) ≡ keptLimit) ⌝ }
     ensures { λ r. ⌜ r ≡ gathered (drop from (now (piece .entry))) from held ⌝ }
     ensures { λ _. ⌜ now (line .exit) ≡ splice (now (line .entry)) held (fitting held (upToFeed (drop from (now (piece .entry))))) ⌝ }

@@ -6,7 +6,7 @@ use mathlib.Core.Logic.{⊎-elim}
 use mathlib.Core.Path.{refl}
 use Prim.Native.Nat.{_-_}
 use lib.ListN.{length}
-use Rattle.pieces.proofs.Gathering.{none-left, feed-here, Gathering, gathering-start, gathering-stored, gathering-over, gathering-done}
+use Rattle.pieces.proofs.Gathering.{none-left, feed-here, Gathering, gathering-start, gathering-stored, gathering-over, gathering-done, gathering-long}
 use Rattle.pieces.proofs.gather.Statement.{statement}
 use Rattle.pieces.proofs.gather.Tie as tie
 
@@ -25,6 +25,12 @@ shared-slice-read-if1 c = search needs
 add-t11 : tie.Need-add-t11 Inv-loop μ-loop
 add-t11 c = search needs
 
+same-length : tie.Need-same-length Inv-loop μ-loop
+same-length c =
+    let l = c .before .before .before in
+    let p = l .before .pre in
+    gathering-long (p .1) (p .2) (l .loop .inv)
+
 returns : tie.Need-returns Inv-loop μ-loop
 returns c =
     let l = c .before .before .before in
@@ -34,8 +40,11 @@ returns c =
 shared-slice-read-line : tie.Need-shared-slice-read-line Inv-loop μ-loop
 shared-slice-read-line c = search needs
 
-element-write-line : tie.Need-element-write-line Inv-loop μ-loop
-element-write-line c = search needs
+slice-write-line : tie.Need-slice-write-line Inv-loop μ-loop
+slice-write-line c =
+    let l = c .before .before .before .before .before in
+    let p = l .before .pre in
+    omega (arith, gathering-long (p .1) (p .2) (l .loop .inv), p .2, c .before .if2 .taken)
 
 add-kept : tie.Need-add-kept Inv-loop μ-loop
 add-kept c = search needs
@@ -58,6 +67,11 @@ loop-again c =
     (λ w. gathering-over (p .1) (p .2) inv here other (omega (arith, w .0 .left)) (w .1) (w .2))
     (c .if2 .came)
 
+same-length-2 : tie.Need-same-length-2 Inv-loop μ-loop
+same-length-2 c =
+    let p = c .before .before .pre in
+    gathering-long (p .1) (p .2) (c .before .loop .inv)
+
 returns-2 : tie.Need-returns-2 Inv-loop μ-loop
 returns-2 c =
     let p = c .before .before .pre in
@@ -72,11 +86,13 @@ gather-spec =
     loop-holds
     shared-slice-read-if1
     add-t11
+    same-length
     returns
     shared-slice-read-line
-    element-write-line
+    slice-write-line
     add-kept
     add-i
     loop-less
     loop-again
+    same-length-2
     returns-2)

@@ -1,4 +1,4 @@
--- `frames::close_step` meets its contract: the counted rules and the open words are what the checker judges.
+-- `frames::steps::close_step` meets its contract: the counted rules and the open words are what the checker judges.
 use native.Mathlib.Omega.{arith}
 use borrow.Author.Needs.{needs}
 use Prim.Native.Nat.{_*_, _≤_}
@@ -13,8 +13,8 @@ use Rattle.laws.specs.Area.{splice}
 use Rattle.rule_table.proofs.Entries.{rules-room}
 use Rattle.rule_table.proofs.Table.{rules-cut}
 use Rattle.frames.proofs.Close.{some-bytes, no-bytes, close-wrong, close-right}
-use Rattle.frames.proofs.close_step.Statement.{statement}
-use Rattle.frames.proofs.close_step.Tie as tie
+use Rattle.frames.proofs.steps.close_step.Statement.{statement}
+use Rattle.frames.proofs.steps.close_step.Tie as tie
 
 -- the counted rules stand in the table
 room : (c : tie.Start) → c .args .counts .rules * ruleWords ≤ length (c .args .rules .now)

@@ -1,4 +1,4 @@
--- `frames::add_words` meets its contract: 11 where the words outgrow the area, else they stand behind those that are open.
+-- `frames::steps::add_words` meets its contract: 11 where the words outgrow the area, else they stand behind those that are open.
 use borrow.Author.Needs.{needs}
 use native.Mathlib.Omega.{arith}
 use Prim.Native.Nat.{ℕ, _+_, _-_}
@@ -12,8 +12,8 @@ use Rattle.laws.proofs.Area.{length-part}
 use Rattle.laws.proofs.Lent.{lent-part, lent-back}
 use Rattle.decode.specs.declared.Offered.the-variants.{Words}
 use Rattle.frames.proofs.Words.{Offers, offers, words-over, words-fit}
-use Rattle.frames.proofs.add_words.Statement.{statement}
-use Rattle.frames.proofs.add_words.Tie as tie
+use Rattle.frames.proofs.steps.add_words.Statement.{statement}
+use Rattle.frames.proofs.steps.add_words.Tie as tie
 
 -- the words that the frame says
 said : (c : tie.Start) → Offers (wordsFrame (c .args .bytes .now)) (c .args .words)

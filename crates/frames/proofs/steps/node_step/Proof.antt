@@ -1,4 +1,4 @@
--- `frames::node_step` meets its contract: by the judgement on the node.
+-- `frames::steps::node_step` meets its contract: by the judgement on the node.
 use native.Mathlib.Omega.{arith}
 use borrow.Author.Needs.{needs}
 use Prim.Native.Nat.{suc}
@@ -10,8 +10,8 @@ use Rattle.entries.specs.Nodes.{nodesTo}
 use Rattle.entries.proofs.Nodes.{nodes}
 use Rattle.tables.specs.Grown.{Grown}
 use Rattle.frames.proofs.Nodes.{node-refused, node-taken}
-use Rattle.frames.proofs.node_step.Statement.{statement}
-use Rattle.frames.proofs.node_step.Tie as tie
+use Rattle.frames.proofs.steps.node_step.Statement.{statement}
+use Rattle.frames.proofs.steps.node_step.Tie as tie
 
 take-node-requires : tie.Need-take-node-requires
 take-node-requires c κs =

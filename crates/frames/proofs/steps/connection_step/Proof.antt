@@ -1,4 +1,4 @@
--- `frames::connection_step` meets its contract: by the judgement on the connection, over the counted nodes and their classes.
+-- `frames::steps::connection_step` meets its contract: by the judgement on the connection, over the counted nodes and their classes.
 use native.Mathlib.Omega.{arith}
 use borrow.Author.Needs.{needs}
 use Prim.Native.Nat.{ℕ, _*_, _+_, _≤_}
@@ -16,8 +16,8 @@ use Rattle.tables.specs.Grown.{Onward}
 use Rattle.frames.specs.Step.{classesFor}
 use Rattle.frames.proofs.Front.{few-nodes, front-whole, front-sofar}
 use Rattle.frames.proofs.Connections.{connection-grown, connection-refused, connection-taken}
-use Rattle.frames.proofs.connection_step.Statement.{statement}
-use Rattle.frames.proofs.connection_step.Tie as tie
+use Rattle.frames.proofs.steps.connection_step.Statement.{statement}
+use Rattle.frames.proofs.steps.connection_step.Tie as tie
 
 -- there are no more nodes than the tables have room for
 few : (c : tie.Start) → c .args .counts .nodes ≤ nodeLimit

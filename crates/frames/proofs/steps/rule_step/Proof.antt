@@ -1,4 +1,4 @@
--- `frames::rule_step` meets its contract: by the judgement on the rule.
+-- `frames::steps::rule_step` meets its contract: by the judgement on the rule.
 use native.Mathlib.Omega.{arith}
 use borrow.Author.Needs.{needs}
 use Prim.Native.Nat.{suc}
@@ -9,8 +9,8 @@ use Rattle.model.specs.Frame.{ruleFrame}
 use Rattle.rule_table.specs.Entries.{rulesIn}
 use Rattle.tables.specs.Grown.{Grown}
 use Rattle.frames.proofs.Rules.{rule-refused, rule-taken}
-use Rattle.frames.proofs.rule_step.Statement.{statement}
-use Rattle.frames.proofs.rule_step.Tie as tie
+use Rattle.frames.proofs.steps.rule_step.Statement.{statement}
+use Rattle.frames.proofs.steps.rule_step.Tie as tie
 
 take-rule-requires : tie.Need-take-rule-requires
 take-rule-requires c κs =

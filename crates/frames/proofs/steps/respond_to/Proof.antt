@@ -1,4 +1,4 @@
--- `frames::respond_to` meets its contract: the counted entries are tables of their own, and the answer over them is printed.
+-- `frames::steps::respond_to` meets its contract: the counted entries are tables of their own, and the answer over them is printed.
 use native.Mathlib.Omega.{arith}
 use borrow.Author.Needs.{needs}
 use mathlib.Core.List.{[]}
@@ -11,8 +11,8 @@ use Rattle.entries.proofs.Nodes.{nodes}
 use Rattle.entries.proofs.Connections.{connections}
 use Rattle.frames.proofs.Front.{few-nodes, front-whole, front-supported}
 use Rattle.frames.proofs.Query.{replied}
-use Rattle.frames.proofs.respond_to.Statement.{statement}
-use Rattle.frames.proofs.respond_to.Tie as tie
+use Rattle.frames.proofs.steps.respond_to.Statement.{statement}
+use Rattle.frames.proofs.steps.respond_to.Tie as tie
 
 -- places by name: the start, from where the counts are known and from where the query was answered
 abbrev start : tie.After-struct-known → tie.Start

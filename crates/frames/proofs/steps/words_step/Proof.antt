@@ -1,11 +1,11 @@
--- `frames::words_step` meets its contract: 2 where the frame says no words, else they are added.
+-- `frames::steps::words_step` meets its contract: 2 where the frame says no words, else they are added.
 use native.Mathlib.Omega.{arith}
 use borrow.Author.Needs.{needs}
 use mathlib.Core.Path.{sym, _∙_}
 use Rattle.model.specs.Frame.{wordsFrame}
 use Rattle.frames.proofs.Words.{words-wrong, offers-none}
-use Rattle.frames.proofs.words_step.Statement.{statement}
-use Rattle.frames.proofs.words_step.Tie as tie
+use Rattle.frames.proofs.steps.words_step.Statement.{statement}
+use Rattle.frames.proofs.steps.words_step.Tie as tie
 
 words-in-requires : tie.Need-words-in-requires
 words-in-requires c κs = search needs

@@ -1,10 +1,10 @@
--- `frames::query_step` meets its contract: by the pair that the frame says.
+-- `frames::steps::query_step` meets its contract: by the pair that the frame says.
 use borrow.Author.Needs.{needs}
 use mathlib.Core.Path.{sym, _∙_}
 use Rattle.model.specs.Frame.{queryFrame}
 use Rattle.frames.proofs.Query.{query-wrong, query-right}
-use Rattle.frames.proofs.query_step.Statement.{statement}
-use Rattle.frames.proofs.query_step.Tie as tie
+use Rattle.frames.proofs.steps.query_step.Statement.{statement}
+use Rattle.frames.proofs.steps.query_step.Tie as tie
 
 -- the start, from where the pair was read
 abbrev start : tie.After-pair-of → tie.Start

@@ -1,9 +1,9 @@
--- `frames::ready` meets its contract: before the first connection the classes are parted, else they stay.
+-- `frames::steps::ready` meets its contract: before the first connection the classes are parted, else they stay.
 use borrow.Author.Needs.{needs}
 use mathlib.Core.Path.{_∙_}
 use Rattle.frames.proofs.Front.{classes-first, classes-later}
-use Rattle.frames.proofs.ready.Statement.{statement}
-use Rattle.frames.proofs.ready.Tie as tie
+use Rattle.frames.proofs.steps.ready.Statement.{statement}
+use Rattle.frames.proofs.steps.ready.Tie as tie
 
 part-requires : tie.Need-part-requires
 part-requires c κs = search needs

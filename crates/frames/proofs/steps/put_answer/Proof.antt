@@ -1,4 +1,4 @@
--- `frames::put_answer` meets its contract: by the answer, a refusal, or the distance and the lines behind it.
+-- `frames::steps::put_answer` meets its contract: by the answer, a refusal, or the distance and the lines behind it.
 use native.Mathlib.Omega.{arith}
 use borrow.Author.Needs.{needs}
 use Prim.Native.Nat.{ℕ, _<_}
@@ -9,8 +9,8 @@ use Rattle.model.specs.declared.Answer.{Answer}
 use Rattle.model.specs.declared.Answer.the-variants.{Written}
 use Rattle.frames.specs.Answer.{Printable}
 use Rattle.frames.proofs.Query.{answer-fits, answer-long, answer-put}
-use Rattle.frames.proofs.put_answer.Statement.{statement}
-use Rattle.frames.proofs.put_answer.Tie as tie
+use Rattle.frames.proofs.steps.put_answer.Statement.{statement}
+use Rattle.frames.proofs.steps.put_answer.Tie as tie
 
 -- the start, from where a written answer is known
 abbrev start : tie.After-answer2 → tie.Start
