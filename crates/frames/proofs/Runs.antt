@@ -54,12 +54,12 @@ module _ (s : State) (line : ℕ) (x : List ℕ) (xs : List (List ℕ)) (rest : 
   unfolding run
   run-stops n e = rw (run, e) refl
 
-  stopped : (n : ℕ) (u : Store) (room : List ℕ) (t : Turn) → lineTurn s line (lineBytes x) ≡ t →
+  pub stopped : (n : ℕ) (u : Store) (room : List ℕ) (t : Turn) → lineTurn s line (lineBytes x) ≡ t →
       TurnIs t line (Stops n) (u .nws) (u .rws) (u .cws) (u .classes) (u .area) room → take n room ≡ run s line (x ∷ xs) rest
   stopped n u room (go out s′) e h = absurd h
   stopped n u room (stop m) e h = h .1 ∙ run-stops m e
 
-  gone : (j : Counts) (n : ℕ) (u : Store) (room out : List ℕ) (t : Turn) → lineTurn s line (lineBytes x) ≡ t →
+  pub gone : (j : Counts) (n : ℕ) (u : Store) (room out : List ℕ) (t : Turn) → lineTurn s line (lineBytes x) ≡ t →
       TurnIs t line (Taken j n) (u .nws) (u .rws) (u .cws) (u .classes) (u .area) room → ((s′ : State) → Holds j u s′ → out ≡ run s′ (suc line) xs rest) →
       take n room ++ out ≡ run s line (x ∷ xs) rest
   gone j n u room out (go text s′) e h f = ap₂ (λ (a b : List ℕ). a ++ b) (h .1) (f s′ (h .2)) ∙ run-goes text s′ e
