@@ -1,9 +1,9 @@
 //! Every answer, word for word and byte for byte.
-use crate::asked::{cases, Cases};
+use crate::asked::{cases, Asked, Call, Cases};
 use erbighenti::{Direction, Item, Justification, Node, Operator, Pattern, Rule, TableBuilder};
 
 fn faults(cases: &Cases) -> Vec<String> {
-    let fault = |one: &crate::asked::Asked| {
+    let fault = |one: &Asked| {
         let (area, room) = one.lengths();
         one.fault(cases.runs[one.over].tables(), &mut vec![0; area], &mut vec![0; room])
     };
@@ -17,7 +17,22 @@ fn valid_damaged_and_random_tables() {
     assert!(wrong.is_empty(), "{} of {}, the first: {}", wrong.len(), cases.asked.len(), wrong[0]);
 }
 
-/// Or the test above tests too little.
+/// Rubbish before, zeros after: whatever the refusal, nothing of what was lent keeps what it held, and nothing was written.
+#[test]
+fn refused_calls_leave_zeros() {
+    let cases = cases(31, 500);
+    let mut refused = 0;
+    for one in cases.asked.iter().filter(|one| one.right.number != 0 && matches!(one.call, Call::Query(..) | Call::Text(_))) {
+        let (mut area, mut room) = (vec![0xdead; one.lengths().0], vec![b'Z'; one.lengths().1]);
+        let number = one.ask(cases.runs[one.over].tables(), &mut area, &mut room).number;
+        assert_eq!(number, one.right.number);
+        assert!(area.iter().all(|word| *word == 0) && room.iter().all(|byte| *byte == 0), "{one:?}");
+        refused += usize::from(!area.is_empty() || !room.is_empty());
+    }
+    assert!(refused > 1000, "only {refused} of them");
+}
+
+/// Or the tests above test too little.
 #[test]
 fn every_refusal_comes_up() {
     let counted = cases(31, 500).counted();
