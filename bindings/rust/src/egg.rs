@@ -4,7 +4,7 @@
 //! themselves by their ids. Both are private there, so that egg's side has to hand them out: [`Explained`] is what is asked for, and
 //! [`tables`] makes the tables. egg keeps no ages. [`tables`] puts the connections into an order in which each congruence stands behind its
 //! support, and says so where there is none. Which of these orders it is changes no answer: paths, distances and flat proofs are those of
-//! the parent connections alone.
+//! the parent connections alone. [`pair`] does the same with the part of a graph that one query needs, for graphs of over 2,048 nodes.
 //!
 //! ```
 //! use erbighenti::egg::{tables, Connection, Explained, Justification};
@@ -33,6 +33,10 @@
 //! let proof = tables(&Small).unwrap().explain(Node(2), Node(3)).unwrap();
 //! assert_eq!(proof.text(), "(o3 o1)\n(o3 (Rewrite=> r7 o2))\n");
 //! ```
+mod part;
+
+pub use part::{pair, Pair};
+
 use crate::layout::{CHILDREN, NODES};
 use crate::numbers::{Direction, Justification as Why, Node, Operator, Rule};
 use crate::tables::TableBuilder;
@@ -79,6 +83,11 @@ pub trait Explained {
 pub enum Misfit {
     /// There are so many nodes, over 2,048.
     Nodes(usize),
+    /// A query names this node, which is not there.
+    NoSuchNode {
+        /// The node.
+        node: usize,
+    },
     /// This node's operator has a number above 65,535.
     Operator {
         /// The node.
@@ -128,6 +137,7 @@ impl fmt::Display for Misfit {
     fn fmt(&self, f: &mut fmt::Formatter<'_>) -> fmt::Result {
         match *self {
             Misfit::Nodes(count) => write!(f, "{count} nodes, and tables have at most {NODES}"),
+            Misfit::NoSuchNode { node } => write!(f, "there is no node {node}"),
             Misfit::Operator { node, number } => write!(f, "node {node} has operator {number}, and the highest is {}", u16::MAX),
             Misfit::Children { node, count } => write!(f, "node {node} has {count} children, and a node has at most {CHILDREN}"),
             Misfit::ChildNotBelow { node, child } => write!(f, "node {node} has child {child}, which is not below it"),

@@ -1,5 +1,5 @@
 //! What does not fit into tables is said, and which order the connections come in.
-use erbighenti::egg::{tables, Connection, Explained, Justification, Misfit};
+use erbighenti::egg::{pair, tables, Connection, Explained, Justification, Misfit};
 use erbighenti::layout::NODES;
 use erbighenti::{Node, Refusal};
 
@@ -93,4 +93,31 @@ fn connections_come_in_the_order_of_their_support() {
     let expected = "(o4 (o3 o1))\n(o4 (Rewrite=> r7 (o5 o1)))\n(o4 (o5 (Rewrite=> r7 o2)))\n(o4 (Rewrite<= r7 (o3 o2)))\n";
     assert_eq!(proof.text(), expected);
     assert_eq!(made.explain(Node(0), Node(8)), Err(Refusal::NoSuchNode));
+}
+
+/// What does not fit into the part that a query needs is named by egg's numbers, and what is elsewhere is not asked for.
+#[test]
+fn a_part_names_eggs_numbers() {
+    let unfit = || Plain {
+        nodes: vec![(1, vec![]), (1, vec![0; 9]), (1, vec![]), (65536, vec![]), (3, vec![2]), (3, vec![2])],
+        connections: vec![],
+    };
+    let asked = |plain: &Plain, left, right| pair(plain, left, right).map(|part| part.explain().map(|proof| proof.text()));
+    assert_eq!(asked(&unfit(), 0, 0), Ok(Ok("o1\n".to_string())));
+    assert_eq!(asked(&unfit(), 0, 2), Ok(Err(Refusal::NotJoined)));
+    assert_eq!(asked(&unfit(), 6, 0), Err(Misfit::NoSuchNode { node: 6 }));
+    assert_eq!(asked(&unfit(), 0, 1), Err(Misfit::Children { node: 1, count: 9 }));
+    assert_eq!(asked(&unfit(), 2, 3), Err(Misfit::Operator { node: 3, number: 65536 }));
+    let joined = |last: Connection| {
+        let roots = (0..4).map(|node| congruent(node, node));
+        Plain { connections: roots.chain([last]).collect(), ..unfit() }
+    };
+    assert_eq!(asked(&joined(congruent(4, 5)), 4, 5), Ok(Ok("(o3 o1)\n".to_string())));
+    assert_eq!(asked(&joined(congruent(4, 2)), 4, 2), Err(Misfit::Unsupported { node: 4 }));
+    assert_eq!(asked(&joined(by(4, 2, Justification::Rule(65536))), 4, 2), Err(Misfit::Rule { node: 4, number: 65536 }));
+    assert_eq!(asked(&joined(rule(4, 6)), 4, 2), Err(Misfit::Ends { node: 4 }));
+    let circle = Plain { connections: vec![rule(0, 1), rule(1, 2), rule(2, 0)], ..leaves(3) };
+    assert_eq!(asked(&circle, 1, 1), Err(Misfit::Circle { node: 1 }));
+    let above = Plain { nodes: vec![(1, vec![1]), (1, vec![])], connections: vec![] };
+    assert_eq!(asked(&above, 0, 1), Err(Misfit::ChildNotBelow { node: 0, child: 1 }));
 }

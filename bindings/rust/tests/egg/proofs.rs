@@ -1,7 +1,7 @@
 //! Random tables, built by egg itself: distances and flat proofs are egg's, and the strict checker takes the proofs back.
 use crate::explain::{Explain, Justification};
 use crate::{Id, Node, Symbol, UnionFind};
-use erbighenti::egg::{self, tables, Connection, Explained};
+use erbighenti::egg::{self, pair, tables, Connection, Explained, Misfit};
 use erbighenti::{Node as Number, Operator, Pattern, Refusal, Rule, TableBuilder};
 
 const SEED: u64 = 41;
@@ -139,8 +139,12 @@ impl Made {
         self.explain.flat(&self.nodes, left, right).iter().map(|term| format!("{term}\n")).collect()
     }
 
+    fn kept(&self) -> Kept<'_> {
+        Kept { nodes: &self.nodes, parents: self.explain.parent_connections() }
+    }
+
     fn tables(&self) -> TableBuilder {
-        tables(&Kept { nodes: &self.nodes, parents: self.explain.parent_connections() }).expect("tables that fit")
+        tables(&self.kept()).expect("tables that fit")
     }
 
     /// A node's term as a pattern without variables.
@@ -163,6 +167,7 @@ struct Counted {
     longest: usize,
     not_joined: usize,
     accepted: usize,
+    smaller: usize,
 }
 
 fn compare(made: &mut Made, random: &mut Random, counted: &mut Counted) {
@@ -172,6 +177,11 @@ fn compare(made: &mut Made, random: &mut Random, counted: &mut Counted) {
     for _ in 0..PAIRS {
         let (left, right) = (random.below(count), random.below(count));
         let answer = tables.explain(Number(left as u16), Number(right as u16));
+        // the part that this query needs gives the same
+        let part = pair(&made.kept(), left, right).expect("a part that fits");
+        assert_eq!(part.explain(), answer);
+        assert!(part.nodes.len() <= count);
+        counted.smaller += usize::from(part.nodes.len() < count);
         if !made.joined(left, right) {
             // row 10 of docs/DIFFERENCES.md: egg panics on such a pair
             assert_eq!(answer, Err(Refusal::NotJoined));
@@ -201,6 +211,7 @@ fn proofs_are_eggs() {
     }
     println!("note: {TABLES} tables, {counted:?}");
     assert!(counted.proofs > 5 * TABLES && counted.accepted > 4 * TABLES && counted.not_joined > TABLES, "{counted:?}");
+    assert!(counted.smaller > TABLES, "{counted:?}");
     assert!(counted.steps > counted.proofs && counted.longest >= 8, "{counted:?}");
 }
 
@@ -229,4 +240,31 @@ fn towers_are_eggs_up_to_the_limit() {
     let (mut made, left, right) = tower(12);
     assert_eq!(made.distance(left, right), "4096");
     assert_eq!(made.tables().explain(number(left), number(right)), Err(Refusal::TooFar));
+}
+
+/// More nodes than tables may have, and few of them needed.
+#[test]
+fn a_pair_of_a_large_graph() {
+    let (mut random, levels) = (Random(SEED), 4);
+    // the tower's nodes stand apart, every 300th, and what is between them are leaves in one class, the tower's among them
+    let place = |number: usize| 300 * number;
+    let mut nodes = vec![Node { op: Symbol('o', 9), children: vec![] }; place(2 * levels + 2)];
+    for (number, node) in tower(levels).0.nodes.into_iter().enumerate() {
+        let children = node.children.iter().map(|child| Id::from(place(usize::from(*child)))).collect();
+        nodes[place(number)] = Node { op: node.op, children };
+    }
+    let mut made = Made::of(nodes);
+    for level in 0..=levels {
+        made.join(&mut random, true, place(2 * level), place(2 * level + 1), level == 0);
+    }
+    for leaf in (0..made.nodes.len()).filter(|leaf| leaf % 300 != 0) {
+        made.join(&mut random, true, leaf, leaf / 300 * 300, true);
+    }
+    assert_eq!(tables(&made.kept()), Err(Misfit::Nodes(3000)));
+    let (left, right) = (place(2 * levels), place(2 * levels + 1));
+    let part = pair(&made.kept(), left, right).expect("a part that fits");
+    assert_eq!(part.nodes, (0..2 * levels + 2).map(place).collect::<Vec<_>>());
+    let proof = part.explain().expect("a proof");
+    assert_eq!(proof.distance(), 1 << levels);
+    assert_eq!(proof.text(), made.flat(Id::from(left), Id::from(right)));
 }
