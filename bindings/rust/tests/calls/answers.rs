@@ -1,6 +1,6 @@
 //! Every answer, word for word and byte for byte.
 use crate::asked::{cases, Asked, Call, Cases};
-use erbighenti::{Direction, Item, Justification, Node, Operator, Pattern, Rule, TableBuilder};
+use erbighenti::{Direction, Item, Justification, Node, Operator, Pattern, Refusal, Rule, TableBuilder, Terms};
 
 fn faults(cases: &Cases) -> Vec<String> {
     let fault = |one: &Asked| {
@@ -30,6 +30,19 @@ fn refused_calls_leave_zeros() {
         refused += usize::from(!area.is_empty() || !room.is_empty());
     }
     assert!(refused > 1000, "only {refused} of them");
+}
+
+/// The iterator over flat terms judges words as the library does: one term, or a refusal by 12 or 13.
+#[test]
+fn terms_are_what_has_a_text() {
+    for one in cases(31, 500).asked.iter().filter(|one| matches!(one.call, Call::Text(_))) {
+        let terms = Terms::of(one.words()).map(Iterator::count).map_err(Refusal::number);
+        match one.right.number {
+            0 | 11 => assert_eq!(terms, Ok(1), "{one:?}"),
+            13 => assert!(terms == Err(13) || terms > Ok(1), "{one:?}"),
+            number => assert_eq!(terms, Err(number), "{one:?}"),
+        }
+    }
 }
 
 /// Or the tests above test too little.

@@ -78,9 +78,13 @@ fn words_that_are_no_terms_are_refused() {
         assert_eq!(Terms::of(&PROOF[..cut]).map(Iterator::count), if whole { Ok(1) } else { Err(Refusal::NoTerms) }, "{cut} words");
         assert_eq!(Proof::offered(PROOF[..cut].to_vec()).is_ok(), whole);
     }
-    for wrong in [[1, 9, 0, 0], [1, 0, 3, 0], [1, 0, 0, 7]] {
+    for wrong in [[1, 0, 3, 0], [1, 0, 0, 7]] {
         assert_eq!(Terms::of(&wrong).map(Iterator::count), Err(Refusal::NoTerms), "{wrong:?}");
     }
+    // a node and as many children as it says
+    let broad = |count: u16| [vec![1, count, 0, 0], [2, 0, 0, 0].repeat(usize::from(count))].concat();
+    assert_eq!(Terms::of(&broad(8)).map(Iterator::count), Ok(1));
+    assert_eq!(Terms::of(&broad(9)).map(Iterator::count), Err(Refusal::NoTerms));
     assert_eq!(Proof::offered(PROOF.to_vec()).unwrap().text(), "(o3 o1)\n(o3 (Rewrite=> r7 o2))\n");
 }
 
