@@ -4,6 +4,9 @@ use crate::flat::Terms;
 use crate::numbers::Node;
 use crate::refusal::{Refusal, Rejection};
 
+// the library takes lengths of 64 bits
+const _: () = assert!(usize::BITS == 64);
+
 #[allow(unsafe_code)]
 mod library {
     extern "C" {
