@@ -1,5 +1,5 @@
 """Builds the library with its test driver by the toolchain's own compiler, and calls it."""
-import os, platform, struct, subprocess
+import hashlib, os, platform, struct, subprocess
 
 TOP = os.path.dirname(os.path.dirname(os.path.abspath(__file__)))
 CHECK, DISTANCE, QUERY, TEXT = 1, 2, 3, 4
@@ -13,9 +13,25 @@ def run(*command):
     return out.stdout
 
 
+def archive():
+    """The archive's path. `rt staticlib` proves the library anew each time, so it is asked only where a source has changed since."""
+    made, stamp = os.path.join(TOP, 'target', 'staticlib', 'libexplanation.a'), os.path.join(TOP, 'target', 'staticlib', 'sources')
+    names = sorted(os.path.join(folder, name) for folder, _, found in os.walk(os.path.join(TOP, 'crates')) for name in found)
+    sources = hashlib.sha256()
+    for name in [os.path.join(TOP, 'crates.txt'), *names]:
+        with open(name, 'rb') as file:
+            sources.update(name.encode() + b'\0' + hashlib.sha256(file.read()).digest())
+    said = sources.hexdigest() + run('rt', 'version')
+    if not (os.path.exists(made) and os.path.exists(stamp) and open(stamp).read() == said):
+        run('rt', 'staticlib', 'explanation')
+        with open(stamp, 'w') as file:
+            file.write(said)
+    return made
+
+
 def build():
-    """The driver's path. `rt staticlib` proves what it builds, if that is not proved yet."""
-    run('rt', 'staticlib', 'explanation')
+    """The driver's path."""
+    archive()
     home = os.path.dirname(os.path.dirname(run('rt', 'doc').strip()))
     tools = os.path.join(home, 'on', platform.machine(), 'toolchain')
     lib, out = os.path.join(tools, 'lib'), os.path.join(TOP, 'target', 'tests')
