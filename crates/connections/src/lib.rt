@@ -27,7 +27,8 @@ ghost use Rattle.model.specs.Judged.{judgementOf};
 ghost use Rattle.model.specs.Connect.{pairsJoined, addConnection};
 ghost use Rattle.model.specs.Tables.{connectionEntry, connectionTable, nodeWords, connectionWords};
 ghost use Rattle.entries.specs.Nodes.{NodesWhole, NodesStand, nodesOf, countIn, childrenIn};
-ghost use Rattle.entries.specs.Connections.{directionIn, connectionIn, present, oldest};
+ghost use Rattle.laws.specs.Present.{present};
+ghost use Rattle.entries.specs.Connections.{directionIn, connectionIn, oldest};
 ghost use Rattle.paths.specs.Hangs.{Forest};
 ghost use Rattle.connections.specs.Classes.{upTo, renamed, classesJoined, sameClass, supportBy, Classes, JudgedBy};
 

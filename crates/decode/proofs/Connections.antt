@@ -12,30 +12,31 @@ use Rattle.model.specs.declared.Justification.{Justification}
 use Rattle.model.specs.Tables.{connectionWords, nextAt, whyAt, byRuleAt, forwardAt, whyOf, connectionOf}
 use Rattle.model.specs.Frame.{two, connectionFrame}
 use Rattle.layouts.specs.Words.{wordsOfWhy, wordsOfConnection}
-use Rattle.decode.specs.Slot.{isThere, slotBy}
+use Rattle.laws.specs.Present.{present}
+use Rattle.decode.specs.Slot.{slotBy}
 
 -- "0 congruence, 1 rule; both 0 for congruence"
-pub why-congruence : (k r f : ℕ) → k ≡ 0 → r ≡ 0 → eqb f 0 ≡ isThere (whyOf k r f)
+pub why-congruence : (k r f : ℕ) → k ≡ 0 → r ≡ 0 → eqb f 0 ≡ present (whyOf k r f)
 why-congruence k r zero e d = rw (e, d) (eq-eqb 0 0 refl)
 why-congruence k r (suc f) e d = rw (e, d) (ne-eqb (suc f) 0 (λ p. omega arith))
 
-pub why-rule : (k r f : ℕ) → k ≡ 1 → leb f 1 ≡ isThere (whyOf k r f)
+pub why-rule : (k r f : ℕ) → k ≡ 1 → leb f 1 ≡ present (whyOf k r f)
 why-rule k r zero e = rw e (le-leb 0 1 (omega arith))
 why-rule k r (suc zero) e = rw e (le-leb 1 1 (omega arith))
 why-rule k r (suc (suc f)) e = rw e (lt-leb (suc (suc f)) 1 (omega arith))
 
-pub no-rule : (k r f : ℕ) → k ≡ 0 → (r ≡ 0 → ⊥) → false ≡ isThere (whyOf k r f)
+pub no-rule : (k r f : ℕ) → k ≡ 0 → (r ≡ 0 → ⊥) → false ≡ present (whyOf k r f)
 no-rule k zero f e h = absurd (h refl)
 no-rule k (suc r) f e h = rw e refl
 
-pub no-why : (k r f : ℕ) → (k ≡ 0 → ⊥) → (k ≡ 1 → ⊥) → false ≡ isThere (whyOf k r f)
+pub no-why : (k r f : ℕ) → (k ≡ 0 → ⊥) → (k ≡ 1 → ⊥) → false ≡ present (whyOf k r f)
 no-why zero r f h g = absurd (h refl)
 no-why (suc zero) r f h g = absurd (g refl)
 no-why (suc (suc k)) r f h g = refl
 
 -- where they are in their sets, a connection's words are its fields
 module _ (c n : ℕ) (old : List ℕ) where
-  of-fields : (k r f : ℕ) → true ≡ isThere (whyOf k r f) → slotBy wordsOfConnection old (connectionOf c n (whyOf k r f)) ≡ c ∷ n ∷ k ∷ r ∷ f ∷ []
+  of-fields : (k r f : ℕ) → true ≡ present (whyOf k r f) → slotBy wordsOfConnection old (connectionOf c n (whyOf k r f)) ≡ c ∷ n ∷ k ∷ r ∷ f ∷ []
   of-fields zero zero zero h = refl
   of-fields zero zero (suc f) h = let z : _≡_ {A = ℕ} 0 1 = cc in absurd (omega arith)
   of-fields zero (suc r) f h = let z : _≡_ {A = ℕ} 0 1 = cc in absurd (omega arith)
@@ -44,11 +45,11 @@ module _ (c n : ℕ) (old : List ℕ) where
   of-fields (suc zero) r (suc (suc f)) h = let z : _≡_ {A = ℕ} 0 1 = cc in absurd (omega arith)
   of-fields (suc (suc k)) r f h = let z : _≡_ {A = ℕ} 0 1 = cc in absurd (omega arith)
 
-  of-none : (w : Option Justification) → false ≡ isThere w → connectionOf c n w ≡ none
+  of-none : (w : Option Justification) → false ≡ present w → connectionOf c n w ≡ none
   of-none none h = refl
   of-none (some w) h = let z : _≡_ {A = ℕ} 0 1 = cc in absurd (omega arith)
 
-  of-some : (w : Option Justification) → isThere w ≡ isThere (connectionOf c n w)
+  of-some : (w : Option Justification) → present w ≡ present (connectionOf c n w)
   of-some none = refl
   of-some (some w) = refl
 
@@ -94,14 +95,14 @@ eight-bytes (a ∷ b ∷ c ∷ d ∷ k ∷ r ∷ n ∷ f ∷ []) h = refl
 eight-bytes (a ∷ b ∷ c ∷ d ∷ k ∷ r ∷ n ∷ f ∷ x ∷ bs) h = absurd (omega arith)
 
 module _ (bs : List ℕ) (old : List ℕ) (r : ℕ) (h : length bs ≡ 8) (by-rule : r ≡ two (getD bs 5 0) (getD bs 6 0)) where
-  pub no-connection : false ≡ isThere (whyOf (getD bs 4 0) r (getD bs 7 0)) → connectionFrame bs ≡ none
+  pub no-connection : false ≡ present (whyOf (getD bs 4 0) r (getD bs 7 0)) → connectionFrame bs ≡ none
   no-connection g = eight-bytes bs h ∙ of-none _ _ old (whyIn bs) (rw by-rule at g)
 
-  pub connection-put : (c n k f : ℕ) → length old ≡ connectionWords → true ≡ isThere (whyOf (getD bs 4 0) r (getD bs 7 0)) →
+  pub connection-put : (c n k f : ℕ) → length old ≡ connectionWords → true ≡ present (whyOf (getD bs 4 0) r (getD bs 7 0)) →
       c ≡ two (getD bs 0 0) (getD bs 1 0) → n ≡ two (getD bs 2 0) (getD bs 3 0) → k ≡ getD bs 4 0 → f ≡ getD bs 7 0 →
-      (true ≡ isThere (connectionFrame bs)) × (set (set (set (set (set old 0 c) nextAt n) whyAt k) byRuleAt r) forwardAt f ≡ slotBy wordsOfConnection old (connectionFrame bs))
+      (true ≡ present (connectionFrame bs)) × (set (set (set (set (set old 0 c) nextAt n) whyAt k) byRuleAt r) forwardAt f ≡ slotBy wordsOfConnection old (connectionFrame bs))
   connection-put c n k f l g c-is n-is k-is f-is =
-      let there : true ≡ isThere (whyIn bs) = rw by-rule at g in (
+      let there : true ≡ present (whyIn bs) = rw by-rule at g in (
         rw (eight-bytes bs h) (there ∙ of-some _ _ old (whyIn bs)),
         five-words old c n k r f l ∙ rw (eight-bytes bs h, c-is, n-is, k-is, f-is, by-rule) (sym (of-fields _ _ old _ _ _ there)),
       )

@@ -16,7 +16,8 @@ use Rattle.model.specs.Frame.{two, twoFront, twos, nodeBy, nodeFrame}
 use Rattle.layouts.specs.Words.{wordsOfNode}
 use Rattle.rule_table.proofs.Patterns.{none-some}
 use Rattle.laws.proofs.Stored.{Stored, stored-none, stored-next, stored-all}
-use Rattle.decode.specs.Slot.{isThere, slotBy}
+use Rattle.laws.specs.Present.{present}
+use Rattle.decode.specs.Slot.{slotBy}
 
 -- the words of whole pairs of bytes
 record Twos (c : ℕ) (l : List ℕ) : Type 0 where
@@ -186,7 +187,7 @@ filled-more {bs} {start} {slot} {at} {k} {v} f h p = record {
 }
 
 pub filled-all : {bs start slot : List ℕ} {at k : ℕ} → Filled bs start slot at k → length slot ≤ k → Says bs → (old : List ℕ) →
-    (true ≡ isThere (nodeFrame bs)) × (slot ≡ slotBy wordsOfNode old (nodeFrame bs))
+    (true ≡ present (nodeFrame bs)) × (slot ≡ slotBy wordsOfNode old (nodeFrame bs))
 filled-all f h s old =
     let l = s .long ∙ sym (f .long) ∙ f .stored .long in
     (rw (s .is) refl, rw (s .is) (stored-all (f .stored) h (wordsOfNode (s .node)) l (λ k g. s .at k)))

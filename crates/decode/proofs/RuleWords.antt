@@ -21,7 +21,8 @@ use Rattle.rule_table.proofs.Sides.{first-item}
 use Rattle.rule_table.proofs.Frames.{frame-sides, Split, frame-split}
 use Rattle.decode.specs.declared.sides.Side.{Side}
 use Rattle.decode.specs.declared.sides.Side.the-variants.{Items, Wrong}
-use Rattle.decode.specs.Slot.{isThere, slotBy}
+use Rattle.laws.specs.Present.{present}
+use Rattle.decode.specs.Slot.{slotBy}
 use Rattle.decode.specs.Sides.{Found, found, sideFound, sideOf, itemsOf, HasItems, TwoSides, ruleSlot}
 use Rattle.decode.proofs.Rules.{Is, found-is, Finds, finds, ASide, a-side, side-scan}
 
@@ -248,7 +249,7 @@ module _ (bs : List ℕ) (h : 2 ≤ length bs) where
 
 -- the slot is the rule's words
 pub rule-put : {bs : List ℕ} {ls rs : List Item} → Says bs ls rs → (old slot : List ℕ) → slot ≡ ruleSlot (two (getD bs 0 0) (getD bs 1 0)) ls rs →
-    (true ≡ isThere (ruleFrame bs)) × (slot ≡ slotBy wordsOfRule old (ruleFrame bs))
+    (true ≡ present (ruleFrame bs)) × (slot ≡ slotBy wordsOfRule old (ruleFrame bs))
 rule-put s old slot e = (rw (s .is) refl, rw (s .is) (e ∙ s .words))
 
 -- the slot, writing by writing

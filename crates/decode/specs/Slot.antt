@@ -5,11 +5,6 @@ use mathlib.Core.List.{List}
 use mathlib.Core.Option.{Option, none, some}
 
 module _ {A : Type 0} where
-  -- whether the frame says an entry
-  abbrev pub isThere : Option A → Bool
-  isThere none = false
-  isThere (some e) = true
-
   abbrev pub slotBy : (A → List ℕ) → List ℕ → Option A → List ℕ
   slotBy words old none = old
   slotBy words old (some e) = words e

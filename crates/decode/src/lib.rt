@@ -26,7 +26,8 @@ ghost use Rattle.model.specs.Tables.{nodeWords, ruleWords, connectionWords, why
 ghost use Rattle.model.specs.Frame.{two, nodeFrame, ruleFrame, connectionFrame, queryFrame, wordsFrame};
 ghost use Rattle.laws.specs.Area.{splice};
 ghost use Rattle.layouts.specs.Words.{wordsOfNode, wordsOfRule, wordsOfConnection};
-ghost use Rattle.decode.specs.Slot.{isThere, slotBy};
+ghost use Rattle.laws.specs.Present.{present};
+ghost use Rattle.decode.specs.Slot.{slotBy};
 ghost use Rattle.decode.specs.Sides.{sideFound, itemsOf, TwoSides, ruleSlot};
 ghost use Rattle.decode.specs.Asked.{pairOf, offeredOf, Holds, sixWords};
 
@@ -81,7 +82,7 @@ fn child_at(bytes: &[u8], at: usize) -> u16
 // 01: a node. Slots that its count leaves unused are zero.
 pub fn put_node(bytes: &[u8], slot: &mut [u16]) -> bool
     requires { ⌜ length (now slot) ≡ nodeWords ⌝ }
-    ensures { λ r. ⌜ r ≡ isThere (nodeFrame (now (bytes .entry))) ⌝ }
+    ensures { λ r. ⌜ r ≡ present (nodeFrame (now (bytes .entry))) ⌝ }
     ensures { λ _. ⌜ now (slot .exit) ≡ slotBy wordsOfNode (now (slot .entry)) (nodeFrame (now (bytes .entry))) ⌝ }
 {
     let n = bytes.len();
@@ -134,7 +135,7 @@ fn write_rule(bytes: &[u8], left: usize, middle: usize, right: usize, slot: &mut
 // 02: a rule. Its two sides are found before anything is written.
 pub fn put_rule(bytes: &[u8], slot: &mut [u16]) -> bool
     requires { ⌜ length (now slot) ≡ ruleWords ⌝ }
-    ensures { λ r. ⌜ r ≡ isThere (ruleFrame (now (bytes .entry))) ⌝ }
+    ensures { λ r. ⌜ r ≡ present (ruleFrame (now (bytes .entry))) ⌝ }
     ensures { λ _. ⌜ now (slot .exit) ≡ slotBy wordsOfRule (now (slot .entry)) (ruleFrame (now (bytes .entry))) ⌝ }
 {
     let n = bytes.len();
@@ -157,7 +158,7 @@ pub fn put_rule(bytes: &[u8], slot: &mut [u16]) -> bool
 // Whether a connection's last three fields are in their sets, by the kind: 0 congruence, 1 rule; rule and forward both 0 for
 // congruence.
 fn why_fits(kind: u8, rule: u16, forward: u8) -> bool
-    ensures { λ r. ⌜ r ≡ isThere (whyOf kind rule forward) ⌝ }
+    ensures { λ r. ⌜ r ≡ present (whyOf kind rule forward) ⌝ }
 {
     match kind {
         0 => {
@@ -174,7 +175,7 @@ fn why_fits(kind: u8, rule: u16, forward: u8) -> bool
 // 03: a connection.
 pub fn put_connection(bytes: &[u8], slot: &mut [u16]) -> bool
     requires { ⌜ length (now slot) ≡ connectionWords ⌝ }
-    ensures { λ r. ⌜ r ≡ isThere (connectionFrame (now (bytes .entry))) ⌝ }
+    ensures { λ r. ⌜ r ≡ present (connectionFrame (now (bytes .entry))) ⌝ }
     ensures { λ _. ⌜ now (slot .exit) ≡ slotBy wordsOfConnection (now (slot .entry)) (connectionFrame (now (bytes .entry))) ⌝ }
 {
     if bytes.len() != CONNECTION_BYTES {

@@ -21,7 +21,8 @@ use Rattle.model.specs.declared.Justification.{Justification}
 use Rattle.model.specs.declared.Justification.the-variants.{Congruence, Rule as byRule}
 use Rattle.laws.proofs.Judging.{first-bad, one-more, taken, whole}
 use Rattle.paths.specs.Hangs.{AcceptedConnections}
-use Rattle.entries.specs.Connections.{connectionIn, connectionsTo, directionIn, oldest, present, whyIn}
+use Rattle.laws.specs.Present.{present}
+use Rattle.entries.specs.Connections.{connectionIn, connectionsTo, directionIn, oldest, whyIn}
 
 pub is-forward : (f : ℕ) → (f ≡ 0 → ⊥) → Forward ≡ directionIn f
 is-forward zero p = absurd (p refl)

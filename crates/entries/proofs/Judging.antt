@@ -20,7 +20,8 @@ use Rattle.model.specs.declared.Justification.the-variants.{Congruence, Rule as
 use Rattle.model.specs.declared.RuleNo.{RuleNo}
 use Rattle.paths.proofs.Laws.{joined-yes}
 use Rattle.entries.proofs.Nodes.{children-in, operator-in}
-use Rattle.entries.specs.Connections.{present, supportIn}
+use Rattle.laws.specs.Present.{present}
+use Rattle.entries.specs.Connections.{supportIn}
 use Rattle.entries.specs.Nodes.{childrenIn, countIn, firstNodes}
 
 module _ (ns : List Node) (cs : List Connection) (c : Connection) where

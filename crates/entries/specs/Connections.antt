@@ -19,12 +19,6 @@ use Rattle.model.specs.declared.Justification.the-variants.{Congruence, Rule as
 use Rattle.paths.specs.Hangs.{AcceptedConnections}
 use Rattle.entries.specs.Nodes.{KnownIn, NodesStand, childIn, childrenIn, countIn, firstNodes}
 
--- whether an entry is there: whole, and its fields in their sets
-module _ {A : Type 0} where
-  abbrev pub present : Option A → Bool
-  present none = false
-  present (some a) = true
-
 -- the connection that stands at a place of the table; its age is that place
 abbrev pub directionIn : ℕ → Direction
 directionIn zero = Backward

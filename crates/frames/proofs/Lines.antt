@@ -14,7 +14,8 @@ use Rattle.model.specs.Frame.{hexDigit, byteFront, hexPairs, lineBytes, frameOf
 use Rattle.model.specs.Run.{State, stop, turnIf, inOrder, lineTurn}
 use Rattle.laws.specs.Area.{splice, part}
 use Rattle.laws.proofs.Area.{splice-inside, part-of-written}
-use Rattle.hex.specs.Line.{isLine, decoded}
+use Rattle.laws.specs.Present.{present}
+use Rattle.hex.specs.Line.{decoded}
 use Rattle.hex.proofs.Lines.{no-digits, many-digits}
 use Rattle.hex.proofs.Spelled.{line-pairs}
 
@@ -42,7 +43,7 @@ pub record Framed (ds : List ℕ) : Type 0 where
   pub twice : length ds ≡ 2 * suc (length rest)
   pub short : length ds ≤ digitLimit
 
-pub framed : (ds : List ℕ) → isLine (lineBytes ds) ≡ true → Framed ds
+pub framed : (ds : List ℕ) → present (lineBytes ds) ≡ true → Framed ds
 framed ds h = by (decoded ds) refl
   where
     p : (hexPairs ds ≡ some (decoded ds)) × (lineBytes ds ≡ some (decoded ds))
@@ -50,7 +51,7 @@ framed ds h = by (decoded ds) refl
 
     within : (b : Bool) → leb (length ds) digitLimit ≡ b → length ds ≤ digitLimit
     within true e = leb-true (length ds) digitLimit e
-    within false e = absurd (false≢true (sym (ap isLine (many-digits ds (leb-false (length ds) digitLimit e))) ∙ h))
+    within false e = absurd (false≢true (sym (ap present (many-digits ds (leb-false (length ds) digitLimit e))) ∙ h))
 
     by : (bs : List ℕ) → decoded ds ≡ bs → Framed ds
     by [] e =
@@ -66,14 +67,14 @@ framed ds h = by (decoded ds) refl
           short = within (leb (length ds) digitLimit) refl;
         }
 
-pub no-line : {b : Bool} (ds : List ℕ) → b ≡ isLine (lineBytes ds) → not b ≡ true → lineBytes ds ≡ none
+pub no-line : {b : Bool} (ds : List ℕ) → b ≡ present (lineBytes ds) → not b ≡ true → lineBytes ds ≡ none
 no-line {b} ds e n = by (lineBytes ds) (sym e ∙ not-true b n)
   where
-    by : (o : Option (List ℕ)) → isLine o ≡ false → o ≡ none
+    by : (o : Option (List ℕ)) → present o ≡ false → o ≡ none
     by none q = refl
     by (some bs) q = absurd (false≢true (sym q))
 
-pub a-line : {b : Bool} (ds : List ℕ) → b ≡ isLine (lineBytes ds) → not b ≡ false → isLine (lineBytes ds) ≡ true
+pub a-line : {b : Bool} (ds : List ℕ) → b ≡ present (lineBytes ds) → not b ≡ false → present (lineBytes ds) ≡ true
 a-line {b} ds e n = sym e ∙ not-false b n
 
 -- what stands behind the kind's byte

@@ -11,12 +11,13 @@ use lib.ListN.{length, getD, take, drop, drop-of-length-le}
 use lib.Seq.{take-all, length-take-le}
 use Rattle.model.specs.Limits.{digitLimit}
 use Rattle.model.specs.Frame.{hexDigit, byteFront, hexPairs, lineBytes}
-use Rattle.hex.specs.Line.{isLine, valueOf}
+use Rattle.laws.specs.Present.{present}
+use Rattle.hex.specs.Line.{valueOf}
 use Rattle.hex.proofs.Digits.{a-digit, none-there, pair-at}
 
 -- "is empty, exceeds 8,192 digits"
 module _ (ds : List ℕ) where
-  pub no-digits : length ds ≡ 0 → false ≡ isLine (lineBytes ds)
+  pub no-digits : length ds ≡ 0 → false ≡ present (lineBytes ds)
   unfolding lineBytes
   no-digits h = rw (lt-leb 1 (length ds) (omega arith)) refl
 
@@ -39,23 +40,23 @@ cut-line ds = by (leb (length ds) digitLimit) refl
         many-digits (take (digitLimit + 1) ds) (omega (arith, length-take-le (digitLimit + 1) ds (omega arith))) ∙ sym (many-digits ds (omega arith))
 
 -- What the walk over the pairs finds.
-pub odd-digits : (ds : List ℕ) → (length ds % 2 ≡ 0 → ⊥) → isLine (hexPairs ds) ≡ false
+pub odd-digits : (ds : List ℕ) → (length ds % 2 ≡ 0 → ⊥) → present (hexPairs ds) ≡ false
 unfolding hexPairs
 odd-digits [] h = absurd (h refl)
 odd-digits (a ∷ []) h = refl
 odd-digits (a ∷ b ∷ ds) h = no-byte (hexDigit a) (hexDigit b) (hexPairs ds) (odd-digits ds (λ e. h (omega (arith, e))))
   where
-    no-byte : (h l : Option ℕ) (r : Option (List ℕ)) → isLine r ≡ false → isLine (byteFront h l r) ≡ false
+    no-byte : (h l : Option ℕ) (r : Option (List ℕ)) → present r ≡ false → present (byteFront h l r) ≡ false
     no-byte none l r e = refl
     no-byte (some h) none r e = refl
     no-byte (some h) (some l) none e = refl
     no-byte (some h) (some l) (some bs) e = e
 
-no-low : (h : Option ℕ) (r : Option (List ℕ)) → isLine (byteFront h none r) ≡ false
+no-low : (h : Option ℕ) (r : Option (List ℕ)) → present (byteFront h none r) ≡ false
 no-low none r = refl
 no-low (some h) r = refl
 
-and-byte : (h l : ℕ) (r : Option (List ℕ)) → isLine r ≡ isLine (byteFront (some h) (some l) r)
+and-byte : (h l : ℕ) (r : Option (List ℕ)) → present r ≡ present (byteFront (some h) (some l) r)
 and-byte h l none = refl
 and-byte h l (some bs) = refl
 
@@ -63,7 +64,7 @@ and-byte h l (some bs) = refl
 pub record Walk (ds : List ℕ) (i : ℕ) : Type 0 where
   pub within : i ≤ length ds
   pub even : i % 2 ≡ 0
-  pub goes : isLine (hexPairs (drop i ds)) ≡ isLine (lineBytes ds)
+  pub goes : present (hexPairs (drop i ds)) ≡ present (lineBytes ds)
 
 module _ (ds : List ℕ) (whole : length ds % 2 ≡ 0) (i : ℕ) (w : Walk ds i) (here : i < length ds) where
   room : i + 2 ≤ length ds
@@ -72,16 +73,16 @@ module _ (ds : List ℕ) (whole : length ds % 2 ≡ 0) (i : ℕ) (w : Walk ds i)
   pub walk-room : i + 1 < length ds
   walk-room = omega (arith, room)
 
-  goes-pair : isLine (byteFront (hexDigit (getD ds i 0)) (hexDigit (getD ds (i + 1) 0)) (hexPairs (drop (i + 2) ds))) ≡ isLine (lineBytes ds)
-  goes-pair = ap isLine (sym (pair-at ds i room)) ∙ w .goes
+  goes-pair : present (byteFront (hexDigit (getD ds i 0)) (hexDigit (getD ds (i + 1) 0)) (hexPairs (drop (i + 2) ds))) ≡ present (lineBytes ds)
+  goes-pair = ap present (sym (pair-at ds i room)) ∙ w .goes
 
-  pub no-high-digit : 16 ≤ valueOf (hexDigit (getD ds i 0)) → false ≡ isLine (lineBytes ds)
+  pub no-high-digit : 16 ≤ valueOf (hexDigit (getD ds i 0)) → false ≡ present (lineBytes ds)
   no-high-digit h = rw (none-there (getD ds i 0) h) at goes-pair
 
-  pub no-low-digit : 16 ≤ valueOf (hexDigit (getD ds (i + 1) 0)) → false ≡ isLine (lineBytes ds)
+  pub no-low-digit : 16 ≤ valueOf (hexDigit (getD ds (i + 1) 0)) → false ≡ present (lineBytes ds)
   no-low-digit h =
       sym (no-low (hexDigit (getD ds i 0)) (hexPairs (drop (i + 2) ds)))
-      ∙ ap (λ (o : Option ℕ). isLine (byteFront (hexDigit (getD ds i 0)) o (hexPairs (drop (i + 2) ds)))) (sym (none-there (getD ds (i + 1) 0) h))
+      ∙ ap (λ (o : Option ℕ). present (byteFront (hexDigit (getD ds i 0)) o (hexPairs (drop (i + 2) ds)))) (sym (none-there (getD ds (i + 1) 0) h))
       ∙ goes-pair
 
   pub walk-more : valueOf (hexDigit (getD ds i 0)) < 16 → valueOf (hexDigit (getD ds (i + 1) 0)) < 16 → Walk ds (i + 2)
@@ -90,13 +91,13 @@ module _ (ds : List ℕ) (whole : length ds % 2 ≡ 0) (i : ℕ) (w : Walk ds i)
     even = omega (arith, w .even);
     goes =
         and-byte (valueOf (hexDigit (getD ds i 0))) (valueOf (hexDigit (getD ds (i + 1) 0))) (hexPairs (drop (i + 2) ds))
-        ∙ ap₂ (λ (x y : Option ℕ). isLine (byteFront x y (hexPairs (drop (i + 2) ds)))) (sym (a-digit (hexDigit (getD ds i 0)) h)) (sym (a-digit (hexDigit (getD ds (i + 1) 0)) l))
+        ∙ ap₂ (λ (x y : Option ℕ). present (byteFront x y (hexPairs (drop (i + 2) ds)))) (sym (a-digit (hexDigit (getD ds i 0)) h)) (sym (a-digit (hexDigit (getD ds (i + 1) 0)) l))
         ∙ goes-pair;
   }
 
 pub walk-start : (ds : List ℕ) → (length ds ≡ 0 → ⊥) → length ds ≤ digitLimit → Walk ds 0
-walk-start ds h g = record { within = omega arith; even = refl; goes = ap isLine (sym (as-pairs ds h g)) }
+walk-start ds h g = record { within = omega arith; even = refl; goes = ap present (sym (as-pairs ds h g)) }
 
-pub walk-done : (ds : List ℕ) (i : ℕ) → Walk ds i → length ds ≤ i → true ≡ isLine (lineBytes ds)
+pub walk-done : (ds : List ℕ) (i : ℕ) → Walk ds i → length ds ≤ i → true ≡ present (lineBytes ds)
 unfolding hexPairs
-walk-done ds i w h = ap (λ (l : List ℕ). isLine (hexPairs l)) (sym (drop-of-length-le ds {i = i} h)) ∙ w .goes
+walk-done ds i w h = ap (λ (l : List ℕ). present (hexPairs l)) (sym (drop-of-length-le ds {i = i} h)) ∙ w .goes

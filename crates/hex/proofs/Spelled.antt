@@ -13,15 +13,16 @@ use Rattle.model.specs.Tables.{onlyIf}
 use Rattle.model.specs.Frame.{hexDigit, byteFront, hexPairs, lineBytes}
 use Rattle.laws.specs.Area.{splice}
 use Rattle.laws.proofs.Area.{length-splice, splice-none, splice-push}
-use Rattle.hex.specs.Line.{isLine, valueOf, decoded}
+use Rattle.laws.specs.Present.{present}
+use Rattle.hex.specs.Line.{valueOf, decoded}
 use Rattle.hex.proofs.Digits.{small, pair-at}
 
 -- a line spells its bytes
-pub line-pairs : (ds : List ℕ) → isLine (lineBytes ds) ≡ true → (hexPairs ds ≡ some (decoded ds)) × (lineBytes ds ≡ some (decoded ds))
+pub line-pairs : (ds : List ℕ) → present (lineBytes ds) ≡ true → (hexPairs ds ≡ some (decoded ds)) × (lineBytes ds ≡ some (decoded ds))
 unfolding lineBytes
 line-pairs ds h = by (leb 1 (length ds) && leb (length ds) digitLimit) (hexPairs ds) refl h
   where
-    by : (b : Bool) (o : Option (List ℕ)) → hexPairs ds ≡ o → isLine (onlyIf b o) ≡ true → (o ≡ some (decoded ds)) × (onlyIf b o ≡ some (decoded ds))
+    by : (b : Bool) (o : Option (List ℕ)) → hexPairs ds ≡ o → present (onlyIf b o) ≡ true → (o ≡ some (decoded ds)) × (onlyIf b o ≡ some (decoded ds))
     by true none e h = let z : _≡_ {A = ℕ} 0 1 = cc in absurd (omega arith)
     by true (some bs) e h = let d : some bs ≡ some (decoded ds) = rw e refl in (d, d)
     by false o e h = let z : _≡_ {A = ℕ} 0 1 = cc in absurd (omega arith)
@@ -58,7 +59,7 @@ pub record Spelling (ds old new : List ℕ) (i j : ℕ) : Type 0 where
   pub written : new ≡ splice old 0 front
   pub goes : joined front (hexPairs (drop i ds)) ≡ some (decoded ds)
 
-module _ (ds old : List ℕ) (line : isLine (lineBytes ds) ≡ true) where
+module _ (ds old : List ℕ) (line : present (lineBytes ds) ≡ true) where
   pub spelling-start : Spelling ds old old 0 0
   spelling-start = record {
     front = [];

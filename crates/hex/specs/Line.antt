@@ -1,13 +1,9 @@
--- Whether there is a line, what a digit counts as, and the bytes that digits spell.
+-- What a digit counts as, and the bytes that digits spell.
 use Prim.Native.Nat.{ℕ}
 use mathlib.Core.Bool.{Bool, true, false}
 use mathlib.Core.List.{List, []}
 use mathlib.Core.Option.{Option, none, some}
 use Rattle.model.specs.Frame.{hexPairs}
-
-abbrev pub isLine : Option (List ℕ) → Bool
-isLine none = false
-isLine (some bs) = true
 
 -- a digit's value, and 16 for a byte that is none
 abbrev pub valueOf : Option ℕ → ℕ

@@ -5,7 +5,8 @@ ghost use Prim.Native.Nat.{_*_, _≤_};
 ghost use lib.ListN.{length};
 ghost use Rattle.model.specs.Frame.{hexDigit, lineBytes};
 ghost use Rattle.laws.specs.Area.{splice};
-ghost use Rattle.hex.specs.Line.{isLine, valueOf, decoded};
+ghost use Rattle.laws.specs.Present.{present};
+ghost use Rattle.hex.specs.Line.{valueOf, decoded};
 
 // The most digits of a line.
 pub const DIGIT_LIMIT: usize = 8192;
@@ -34,7 +35,7 @@ fn value(b: u8) -> u8
 
 // Whether digits are a line: lower-case hex pairs, one or more, and no more digits than a line may have.
 pub fn is_line(digits: &[u8]) -> bool
-    ensures { λ r. ⌜ r ≡ isLine (lineBytes (now (digits .entry))) ⌝ }
+    ensures { λ r. ⌜ r ≡ present (lineBytes (now (digits .entry))) ⌝ }
 {
     let n = digits.len();
     if n == 0 {
@@ -61,7 +62,7 @@ pub fn is_line(digits: &[u8]) -> bool
 
 // Writes the bytes that a line spells before what else stands in the room.
 pub fn put_bytes(digits: &[u8], bytes: &mut [u8])
-    requires { ⌜ (isLine (lineBytes (now digits)) ≡ true) × (length (now digits) ≤ 2 * length (now bytes)) ⌝ }
+    requires { ⌜ (present (lineBytes (now digits)) ≡ true) × (length (now digits) ≤ 2 * length (now bytes)) ⌝ }
     ensures { λ _. ⌜ now (bytes .exit) ≡ splice (now (bytes .entry)) 0 (decoded (now (digits .entry))) ⌝ }
 {
     let mut i: usize = 0;

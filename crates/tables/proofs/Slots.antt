@@ -7,7 +7,7 @@ use native.Mathlib.Omega.{arith}
 use Rattle.model.specs.declared.Judgement.{Judgement}
 use Rattle.model.specs.declared.Judgement.the-variants.{Taken, Faulty}
 use Rattle.model.specs.Judged.{Judged, bad, judgementOf}
-use Rattle.decode.specs.Slot.{isThere}
+use Rattle.laws.specs.Present.{present}
 use Rattle.tables.specs.Grown.{Grown}
 
 module _ {A : Type 0} where
@@ -15,11 +15,11 @@ module _ {A : Type 0} where
     pub what : A
     pub is : o ≡ some what
 
-  pub says-some : {b : Bool} (o : Option A) → b ≡ isThere o → not b ≡ false → Says o
+  pub says-some : {b : Bool} (o : Option A) → b ≡ present o → not b ≡ false → Says o
   says-some none e n = absurd (false≢true (sym n ∙ ap not e))
   says-some (some a) e n = record { what = a; is = refl }
 
-  pub says-none : {b : Bool} (o : Option A) → b ≡ isThere o → not b ≡ true → o ≡ none
+  pub says-none : {b : Bool} (o : Option A) → b ≡ present o → not b ≡ true → o ≡ none
   says-none none e n = refl
   says-none (some a) e n = absurd (false≢true (sym (ap not e) ∙ n))
 

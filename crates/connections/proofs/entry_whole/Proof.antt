@@ -2,7 +2,7 @@
 use borrow.Author.Needs.{needs}
 use mathlib.Core.Path.{_≡_, sym, _∙_}
 use Rattle.model.specs.Tables.{whyOf, connectionEntry}
-use Rattle.entries.specs.Connections.{present}
+use Rattle.laws.specs.Present.{present}
 use Rattle.entries.proofs.Connections.{present-short, present-long, fields-cong, fields-named, fields-rule, fields-none}
 use Rattle.connections.proofs.entry_whole.Statement.{statement}
 use Rattle.connections.proofs.entry_whole.Tie as tie

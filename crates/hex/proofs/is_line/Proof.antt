@@ -4,7 +4,7 @@ use native.Mathlib.Omega.{arith}
 use mathlib.Core.Path.{sym, ap, _∙_}
 use Prim.Native.Nat.{_-_}
 use lib.ListN.{length}
-use Rattle.hex.specs.Line.{isLine}
+use Rattle.laws.specs.Present.{present}
 use Rattle.hex.proofs.Lines.{no-digits, many-digits, as-pairs, odd-digits, Walk, walk-start, walk-room, no-high-digit, no-low-digit, walk-more, walk-done}
 use Rattle.hex.proofs.is_line.Statement.{statement}
 use Rattle.hex.proofs.is_line.Tie as tie
@@ -19,10 +19,10 @@ returns : tie.Need-returns Inv-loop μ-loop
 returns c = no-digits _ (c .if1 .taken)
 
 returns-2 : tie.Need-returns-2 Inv-loop μ-loop
-returns-2 c = ap isLine (sym (many-digits _ (c .if2 .taken)))
+returns-2 c = ap present (sym (many-digits _ (c .if2 .taken)))
 
 returns-3 : tie.Need-returns-3 Inv-loop μ-loop
-returns-3 c = sym (odd-digits _ (c .if3 .taken)) ∙ ap isLine (sym (as-pairs _ (c .before .before .if1 .left) (c .before .if2 .left)))
+returns-3 c = sym (odd-digits _ (c .if3 .taken)) ∙ ap present (sym (as-pairs _ (c .before .before .if1 .left) (c .before .if2 .left)))
 
 loop-holds : tie.Need-loop-holds Inv-loop μ-loop
 loop-holds c = walk-start _ (c .before .before .if1 .left) (c .before .if2 .left)
