@@ -20,6 +20,11 @@ def printed(given):
     return done.stdout
 
 
+def with_stack(given, kibibytes):
+    """What it prints where its stack may not grow beyond so much"""
+    return subprocess.run(['bash', '-c', f'ulimit -s {kibibytes} && exec "$@"', 'bash', *COMMAND], input=given, capture_output=True).stdout
+
+
 def in_pieces(given, sizes):
     """What it prints where the input comes in pieces of these sizes, over and over"""
     program = subprocess.Popen(COMMAND, stdin=subprocess.PIPE, stdout=subprocess.PIPE)
