@@ -1,5 +1,5 @@
 """Random tables for the oracle's list and for comparisons: nodes, rules, and connections in scrambled ages."""
-import proofs
+import proofs, tables
 from reference import Forest, Refused, is_instance
 
 
@@ -101,3 +101,81 @@ def connect(rng, nodes, wanted):
                 rest.append(c)
         left = rest
     return forest, taken
+
+
+def at(t, path):
+    for i in path:
+        t = t[1][i]
+    return t
+
+
+def rewritten(rng):
+    """Terms rewritten step by step: each rule connection is an instance of its listed rule, and what stands above is joined by congruences."""
+    found, place, nodes, wanted = proofs.rules(rng, rng.randrange(1, 5)), {}, [], []
+
+    def put(t):
+        # now and then a second node of the same term
+        if t not in place or rng.random() < 0.05:
+            kids = [put(k) for k in t[1]]
+            nodes.append((t[0], kids))
+            place[t] = len(nodes) - 1
+        return place[t]
+
+    for _ in range(rng.randrange(1, 3)):
+        t = proofs.term(rng, rng.randrange(1, 4))
+        put(t)
+        for _ in range(rng.randrange(1, 7)):
+            made = proofs.step(rng, t, found)
+            if made is None or proofs.size(made[0]) > 30 or len(nodes) > 60:
+                break
+            put(made[0])
+            for path, (direction, number) in made[1].items():
+                wanted.append(by_rule(rng, put(at(t, path)), put(at(made[0], path)), number, 2 - direction))
+            t = made[0]
+    return nodes, proofs.table(found), wanted + [congruent(rng, a, b) for a, b in pairs(nodes)]
+
+
+def small(rng):
+    """one of the shapes of tests/tables.py, of a small size, each tree of it with a root of its own choice"""
+    r = rng.randrange
+    shape = r(12)
+    nodes, links, *_ = (tables.chain(r(2, 12), r(1, 5), rng.choice((7, 8))) if shape < 2 else tables.tower(r(7), r(4) > 0) if shape == 2 else
+                        tables.star(r(2, 12)) if shape == 3 else tables.comb(r(2, 8)) if shape == 4 else tables.scrambled(r(2, 20)) if shape == 5 else
+                        tables.tied() if shape == 6 else tables.nested(r(12)) if shape == 7 else tables.leaning(r(6), r(6)) if shape == 8 else
+                        tables.changed_leaf(r(1, 6)) if shape == 9 else tables.changed_root(r(1, 5), r(7)) if shape == 10 else
+                        tables.beside_free(r(1, 4), r(1, 4), r(2, 6)))
+    return nodes, rng.choice(([], [(7, [(1, 1, 0)], [(1, 2, 0)])])), turned(rng, len(nodes), links)
+
+
+def turned(rng, count, links):
+    """the same connections, each tree hung up by another of its nodes: what was walked up may be walked down"""
+    beside = {n: [] for n in range(count)}
+    for age, c in enumerate(links):
+        beside[c[0]].append((c[1], age))
+        beside[c[1]].append((c[0], age))
+    made, seen = list(links), set()
+    for root in rng.sample(range(count), count):
+        stack = [root] if root not in seen else []
+        seen.add(root)
+        while stack:
+            here = stack.pop()
+            for other, age in beside[here]:
+                if other not in seen:
+                    seen.add(other)
+                    stack.append(other)
+                    current, _, kind, rule, forward = links[age]
+                    made[age] = (other, here, kind, rule, forward if current == other or kind == 0 else 1 - forward)
+    return made
+
+
+def large(rng):
+    """shapes near document 01's limits: distances and words on both sides of them, ages as they are"""
+    r, shape = rng.randrange, rng.randrange(9)
+    wide = r(1, 9)
+    nodes, links, left, right = (
+        # leaves under so many children: distance (leaves - 1) * children, around 4,095
+        tables.chain(min(4095 // wide + r(3), 2046), wide) if shape < 2 else tables.tower(r(4, 15)) if shape == 2 else
+        tables.nested(r(20, 300)) if shape == 3 else tables.leaning(r(1, 300), r(1, 400)) if shape == 4 else
+        tables.changed_leaf(r(8, 14)) if shape == 5 else tables.changed_root(r(8, 13), r(7)) if shape == 6 else
+        tables.among_large(r(6, 11)) if shape == 7 else tables.many_small(r(100, 140)))
+    return nodes, [], turned(rng, len(nodes), links), left, right

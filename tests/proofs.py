@@ -188,3 +188,27 @@ def changed(rng, terms):
         here = rng.choice(marked)[0]
         flat[here + 2] = 3 - flat[here + 2]
     return flat
+
+
+def unmarked(words):
+    return [0 if i % 4 > 1 else w for i, w in enumerate(words)]
+
+
+def singly(earlier, later):
+    """A step of several marks as steps of one mark each, in words. Both terms agree above the marks."""
+    parts, a, b = [], 0, 0
+    while b < len(later):
+        ends = (size_at(earlier, a), size_at(later, b)) if later[b + 2] else (a + 4, b + 4)
+        parts.append((unmarked(earlier[a:ends[0]]), later[b:ends[1]]))
+        a, b = ends
+    made = []
+    for k, (_, made_here) in enumerate(parts):
+        if made_here[2]:
+            # before it everything is made already, behind it nothing
+            made.append([w for j, (old, new) in enumerate(parts) for w in (unmarked(new) if j < k else new if j == k else old)])
+    return made
+
+
+def split(terms):
+    """the proof with one mark a step"""
+    return terms[:1] + [t for k in range(1, len(terms)) for t in singly(terms[k - 1], terms[k])]
