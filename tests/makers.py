@@ -136,14 +136,15 @@ def rewritten(rng):
 
 
 def small(rng):
-    """one of the shapes of tests/tables.py, of a small size, each tree of it with a root of its own choice"""
-    r = rng.randrange
+    """one of the shapes of tests/tables.py, mostly of a small size, each tree of it with a root of its own choice"""
+    r, by = rng.randrange, rng.choice((1, 1, 1, 1, 1, 1, 1, 2, 4, 8))
     shape = r(12)
-    nodes, links, *_ = (tables.chain(r(2, 12), r(1, 5), rng.choice((7, 8))) if shape < 2 else tables.tower(r(7), r(4) > 0) if shape == 2 else
-                        tables.star(r(2, 12)) if shape == 3 else tables.comb(r(2, 8)) if shape == 4 else tables.scrambled(r(2, 20)) if shape == 5 else
-                        tables.tied() if shape == 6 else tables.nested(r(12)) if shape == 7 else tables.leaning(r(6), r(6)) if shape == 8 else
-                        tables.changed_leaf(r(1, 6)) if shape == 9 else tables.changed_root(r(1, 5), r(7)) if shape == 10 else
-                        tables.beside_free(r(1, 4), r(1, 4), r(2, 6)))
+    nodes, links, *_ = (
+        tables.chain(r(2, 12 * by), r(1, 9), rng.choice((7, 8))) if shape < 2 else tables.tower(r(7), r(4) > 0) if shape == 2 else
+        tables.star(r(2, 12 * by)) if shape == 3 else tables.comb(r(2, 8 * by)) if shape == 4 else tables.scrambled(r(2, 20 * by)) if shape == 5 else
+        tables.tied() if shape == 6 else tables.nested(r(8 * by)) if shape == 7 else tables.leaning(r(6 * by), r(5 * by)) if shape == 8 else
+        tables.changed_leaf(r(1, 6)) if shape == 9 else tables.changed_root(r(1, 5), r(7)) if shape == 10 else
+        tables.beside_free(r(1, 4), r(1, 4), r(2, 6 * by)))
     return nodes, rng.choice(([], [(7, [(1, 1, 0)], [(1, 2, 0)])])), turned(rng, len(nodes), links)
 
 
