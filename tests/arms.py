@@ -4,7 +4,8 @@ import os, tempfile, zlib
 import tree_checker
 from library import CHECK, DISTANCE, QUERY, TOP, build, call, case, launched, run, text
 from listed import ABOVE, COUNTS, INSIDE, REFUSED, UNLISTED, difference
-from reference import (Fields, Refused, Run, connection_words, line_bytes, node_frame, node_words, rule_words, side_frame, term_text, term_words)
+from reference import (Fields, Refused, Run, connection_words, line_bytes, node_frame, node_words, rule_words, side_frame, term_text,
+                       term_words)
 from rust import ask_many, build as build_oracle
 from scope import AREA, DISTANCE as FAR
 from stored import offered_line, query_line, table_lines
@@ -80,7 +81,8 @@ class Library(Arm):
             terms = [term_words(t) for t in found[1]]
             words = [w for t in terms for w in t]
             # an area of just the words or some more; and now and then a word too few
-            yield about, case(QUERY, *tables, [RUBBISH] * (len(words) + (left + right) % 4), left, right), (0, found[0], len(words), 0, *words)
+            area = [RUBBISH] * (len(words) + (left + right) % 4)
+            yield about, case(QUERY, *tables, area, left, right), (0, found[0], len(words), 0, *words)
             if (left + right) % 3 == 0:
                 yield f'{about}, a word too few', case(QUERY, *tables, [RUBBISH] * (len(words) - 1), left, right), (11, 0, 0, 0)
             spelled = term_text(found[1][-1]).encode()

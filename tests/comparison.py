@@ -40,8 +40,8 @@ class Covered:
         print('answers:')
         for said, n in sorted(self.numbers.items(), key=lambda item: (int(item[0].split()[-1]) if ' ' in item[0] else 0, item)):
             print(f'    {n:7} {said}')
-        for name, sizes in (('distances', self.distances), ('words offered', self.words), ('nodes', self.nodes), ('connections', self.links),
-                            ('bytes', self.bytes)):
+        for name, sizes in (('distances', self.distances), ('words offered', self.words), ('nodes', self.nodes),
+                            ('connections', self.links), ('bytes', self.bytes)):
             print(f'{name}: {histogram(sizes)}')
         left = sorted(set(range(1, 20)) - self.refused())
         print(f'numbers not reached: {left}' if left else 'every number from 1 to 19 was reached')

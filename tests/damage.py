@@ -153,7 +153,8 @@ ENTRIES = {
     'a direction past 1': (3, link(lambda rng, n, a, b, old: (a, b, 1, 7, rng.choice((2, 255))))),
     'a congruence with a rule': (3, link(lambda rng, n, a, b, old: (a, b, 0, 7, 0))),
     'a congruence with a direction': (3, link(lambda rng, n, a, b, old: (a, b, 0, 0, 1))),
-    'a node out of the table': (3, link(lambda rng, n, a, b, old: rng.choice(((n, b, 1, 7, 1), (a, n + 3, 0, 0, 0), (65535, 65535, 1, 7, 1))))),
+    'a node out of the table': (3, link(lambda rng, n, a, b, old: rng.choice(((n, b, 1, 7, 1), (a, n + 3, 0, 0, 0),
+                                                                              (65535, 65535, 1, 7, 1))))),
     'ends equal': (3, link(lambda rng, n, a, b, old: (a, a, rng.randrange(2), 0, 0))),
     'a second parent': (3, link(lambda rng, n, a, b, old: (old[0], b, 1, 7, 1))),
     'joined already': (3, link(lambda rng, n, a, b, old: (old[1], old[0], 1, 7, 0))),
@@ -219,7 +220,8 @@ def left_open(rng, lines):
 
 DIGIT = '0123456789abcdef'
 LINES = {
-    'an odd digit': one_line(lambda rng, s: put_in(rng, s, rng.choice(DIGIT))), 'a digit lost': one_line(lambda rng, s: put_in(rng, s, '', 1)),
+    'an odd digit': one_line(lambda rng, s: put_in(rng, s, rng.choice(DIGIT))),
+    'a digit lost': one_line(lambda rng, s: put_in(rng, s, '', 1)),
     'upper case': one_line(lambda rng, s: put_in(rng, s, rng.choice('ABCDEF'), 1)),
     'no digit': one_line(lambda rng, s: put_in(rng, s, rng.choice('g/:`G@ \t\r\0\x7f\xff'), 1)),
     'two that are no digits': one_line(lambda rng, s: put_in(rng, s, rng.choice(('  ', '0x', '\r ', '\xff\xff', '\0\0')), 0)),
@@ -230,7 +232,8 @@ LINES = {
     'an unknown kind': line_more(lambda rng: f'{rng.choice((0, 7, 8, 16, 128, 255)):02x}' + '00' * rng.randrange(5)),
     'an unknown kind, of a frame': one_line(lambda rng, s: f'{rng.choice((0, 7, 255)):02x}' + s[2:]),
     'another kind': one_line(lambda rng, s: f'{rng.randrange(1, 7):02x}' + s[2:]), 'a line moved': moved,
-    'a byte lost': one_line(lambda rng, s: byte_at(rng, s, lambda b: '')), 'a byte more': one_line(lambda rng, s: byte_at(rng, s, lambda b: b + b)),
+    'a byte lost': one_line(lambda rng, s: byte_at(rng, s, lambda b: '')),
+    'a byte more': one_line(lambda rng, s: byte_at(rng, s, lambda b: b + b)),
     'a byte behind': one_line(lambda rng, s: s + '00'), 'a line cut': one_line(lambda rng, s: s[:2 * rng.randrange(1, len(s) // 2 + 1)]),
     'another byte': one_line(lambda rng, s: byte_at(rng, s, lambda b: f'{rng.choice((0, 1, 2, 3, 9, 16, 255, rng.randrange(256))):02x}')),
     'a line lost': lost,

@@ -1,4 +1,5 @@
-"""Inputs for comparisons, from a seed: bytes of whole runs of the program. Input number i of a seed is always the same, whatever was made before."""
+"""Inputs for comparisons, from a seed: bytes of whole runs of the program. Input number i of a seed is always the same, whatever was made
+before it."""
 import random
 import damage, makers, proofs, runs, tables
 from reference import term_words
@@ -125,7 +126,8 @@ def bad_entry(rng):
 def mixed(rng):
     """tables whose entries are mostly good, and queries"""
     nodes, links = tables.random_table(rng)
-    return 'mixed entries', table_lines(nodes, [], links) + [query_line(rng.randrange(len(nodes)), rng.randrange(len(nodes))) for _ in range(2)]
+    queries = [query_line(rng.randrange(len(nodes)), rng.randrange(len(nodes))) for _ in range(2)]
+    return 'mixed entries', table_lines(nodes, [], links) + queries
 
 
 def bad_lines(rng):

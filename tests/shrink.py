@@ -4,7 +4,8 @@ from proofs import size_at, unmarked
 from reference import Fields, Refused, line_bytes, words_frame
 from stored import offered_line
 
-BATCH, SECONDS = 64, 60
+# inputs that are tried at once, and when to stop: after so many, or after so many seconds
+BATCH, TRIES, SECONDS = 64, 20000, 60
 
 
 def weight(data):
@@ -35,6 +36,15 @@ def without_nodes(lines):
         instead = int(lines[i][8:12] or b'0', 16) if number else 0
         yield lines[:i] + [renumbered(line, number, min(instead, 65534)) for line in lines[i + 1:]] if number == 0 else (
             [renumbered(line, number, instead) for line in lines[:i] + lines[i + 1:]])
+
+
+def other_pairs(lines):
+    """a query of the two ends of one connection instead"""
+    ends = {pair for line in lines if line[:2] == b'03' for pair in (line[2:10], line[6:10] + line[2:6])}
+    for i, line in enumerate(lines):
+        if line[:2] == b'04':
+            for pair in sorted(ends):
+                yield lines[:i] + [b'04' + pair] + lines[i + 1:]
 
 
 def proofs_in(lines):
@@ -157,7 +167,7 @@ def candidates(data):
     fed = data.endswith(b'\n')
     lines = data.split(b'\n')
     lines = lines[:-1] if fed else lines
-    for way in (without_lines, without_nodes, smaller_proofs, shorter_lines, lower_numbers, lower_bytes):
+    for way in (without_lines, without_nodes, other_pairs, smaller_proofs, shorter_lines, lower_numbers, lower_bytes):
         for other in way(lines):
             made = b'\n'.join(other) + (b'\n' if fed and other else b'')
             if weight(made) < weight(data):
@@ -166,24 +176,32 @@ def candidates(data):
         yield data + b'\n'
 
 
+def batches(data, fed):
+    """the smaller inputs, so many at once; a line feed at the end is put there once at most"""
+    batch = []
+    for other in candidates(data):
+        if not (fed and other == data + b'\n'):
+            batch.append(other)
+        if len(batch) == BATCH:
+            yield batch
+            batch = []
+    if batch:
+        yield batch
+
+
 def shrink(data, differs):
     """The smallest input found for which `differs` stays true; it takes a list of inputs and gives a list of truths."""
-    until, fed = time.monotonic() + SECONDS, False
-    while time.monotonic() < until:
-        batch, found = [], None
-        for other in candidates(data):
-            if other == data + b'\n' and fed:
-                continue
-            batch.append(other)
-            if len(batch) == BATCH:
-                found = next((b for b, yes in zip(batch, differs(batch)) if yes), None)
-                batch = []
-                if found is not None or time.monotonic() > until:
-                    break
-        if found is None and batch:
-            found = next((b for b, yes in zip(batch, differs(batch)) if yes), None)
+    until, tries, fed = time.monotonic() + SECONDS, 0, False
+    while True:
+        found = None
+        for batch in batches(data, fed):
+            if tries >= TRIES or time.monotonic() > until:
+                return data
+            tries += len(batch)
+            found = next((other for other, yes in zip(batch, differs(batch)) if yes), None)
+            if found is not None:
+                break
         if found is None:
             return data
         fed = fed or found == data + b'\n'
         data = found
-    return data
