@@ -1,11 +1,19 @@
 /* Erbighenti for C: proved explanations of rewritten alert expressions.
-   Tables and proofs are runs of 16-bit words, each a pointer and a length in words; their layouts are in crates/model/specs/Tables.antt and Term.antt.
+   Tables and proofs are runs of 16-bit words, each a pointer and a length in words; their layouts are in crates/model/specs/Tables.antt
+   and Term.antt.
    No pointer may be null, also where the length is 0. What is lent to be written (`value`, `area`, `room`, `distance`, `written`) must not
-   overlap what is lent to be read, nor each other, and nobody may change the words while a call runs. */
+   overlap what is lent to be read, nor each other, and nobody may change the words while a call runs.
+   The library has no state: it keeps nothing from one call to the next, asks for no memory and writes to nothing but what it is lent. So
+   any number of threads may call it at once, each with its own area, room and results; what is only read they may share.
+   bindings/c has a program that uses it. */
 #ifndef ERBIGHENTI_H
 #define ERBIGHENTI_H
 #include <stddef.h>
 #include <stdint.h>
+
+#ifdef __cplusplus
+extern "C" {
+#endif
 
 /* The strict checker over tables handed in whole. Returns document 01's number, 0 for an accepted proof.
    Behind `value` stands the count of terms, or where it is refused the term's place from 0. */
@@ -30,5 +38,9 @@ uint16_t erbighenti_query(const uint16_t *nodes, size_t nodes_len, const uint16_
    Behind `written` stand the bytes written, 0 where it is refused. The text does not end with a zero byte of its own.
    The room holds the text and zeros behind it; after a refusal it is all zero, whatever it held. */
 uint16_t erbighenti_term_text(const uint16_t *words, size_t words_len, uint8_t *room, size_t room_len, uint64_t *written);
+
+#ifdef __cplusplus
+}
+#endif
 
 #endif

@@ -29,19 +29,43 @@ def archive():
     return made
 
 
+def toolchain():
+    home = os.path.dirname(os.path.dirname(run('rt', 'doc').strip()))
+    return os.path.join(home, 'on', platform.machine(), 'toolchain')
+
+
+def compile_c(source, *words):
+    """The path of the object that the toolchain's compiler makes of a C file. Warnings are errors."""
+    out = os.path.join(TOP, 'target', 'tests')
+    os.makedirs(out, exist_ok=True)
+    made = os.path.join(out, os.path.splitext(os.path.basename(source))[0] + '.o')
+    run(os.path.join(toolchain(), 'bin', 'clang'), '--target=x86_64-unknown-linux-gnu', '-O2', '-Wall', '-Wextra', '-Werror', *words,
+        '-Itests/headers', '-c', source, '-o', made)
+    return made
+
+
+def link(made):
+    """The path of the program that an object and the library are linked to, with the toolchain's C library."""
+    tools, program = toolchain(), os.path.splitext(made)[0]
+    lib = os.path.join(tools, 'lib')
+    run(os.path.join(tools, 'bin', 'ld.lld'), '-pie', '-dynamic-linker', f'{lib}/ld-linux-x86-64.so.2', f'{lib}/Scrt1.o', f'{lib}/crti.o',
+        f'{lib}/crtbeginS.o', made, 'target/staticlib/libexplanation.a', f'{lib}/libc.so.6', f'{lib}/libc_nonshared.a', f'{lib}/libgcc.a',
+        f'{lib}/crtendS.o', f'{lib}/crtn.o', '-o', program)
+    return program
+
+
 def build():
     """The driver's path."""
     archive()
-    home = os.path.dirname(os.path.dirname(run('rt', 'doc').strip()))
-    tools = os.path.join(home, 'on', platform.machine(), 'toolchain')
-    lib, out = os.path.join(tools, 'lib'), os.path.join(TOP, 'target', 'tests')
-    os.makedirs(out, exist_ok=True)
-    run(os.path.join(tools, 'bin', 'clang'), '--target=x86_64-unknown-linux-gnu', '-O2', '-Wall', '-Wextra', '-Werror', '-Itests/headers',
-        '-c', 'tests/driver.c', '-o', f'{out}/driver.o')
-    run(os.path.join(tools, 'bin', 'ld.lld'), '-pie', '-dynamic-linker', f'{lib}/ld-linux-x86-64.so.2', f'{lib}/Scrt1.o', f'{lib}/crti.o',
-        f'{lib}/crtbeginS.o', f'{out}/driver.o', 'target/staticlib/libexplanation.a', f'{lib}/libc.so.6', f'{lib}/libc_nonshared.a',
-        f'{lib}/libgcc.a', f'{lib}/crtendS.o', f'{lib}/crtn.o', '-o', f'{out}/driver')
-    return f'{out}/driver'
+    return link(compile_c('tests/driver.c'))
+
+
+def launched(program):
+    """the command by which ./launch runs a program, without its shell: for tests that start a program often"""
+    tools = toolchain()
+    emulator, lib = os.path.join(tools, 'bin', 'qemu-x86_64'), os.path.join(tools, 'lib')
+    command = [os.path.join(lib, 'ld-linux-x86-64.so.2'), '--library-path', lib, program]
+    return [emulator, *command] if os.access(emulator, os.X_OK) else command
 
 
 def case(what, nodes, rules, connections, words=(), left=0, right=0, times=1):

@@ -1,9 +1,9 @@
 """The program: built, and run on bytes."""
 import os, subprocess, time
-from library import TOP, run
+from library import TOP, launched, run
 
 PROGRAM = os.path.join(TOP, 'target', 'bin', 'explain')
-COMMAND = [os.path.join(TOP, 'launch'), PROGRAM]
+COMMAND = launched(PROGRAM)
 SCRIPT = os.path.join(TOP, 'run')
 
 

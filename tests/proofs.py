@@ -131,3 +131,84 @@ def damaged(rng, terms):
     else:
         flat[at:at] = [rng.randrange(5)] * rng.choice((1, 4))
     return flat
+
+
+def spots(words, ends):
+    """for each node of each later term: where it stands, its term's place, its size, and whether it stands inside a mark"""
+    found = []
+    for k in range(1, len(ends)):
+        at, inside = ends[k - 1], 0
+        while at < ends[k]:
+            end = size_at(words, at)
+            found.append((at, k, end, at < inside))
+            if words[at + 2]:
+                inside = max(inside, end)
+            at += 4
+    return found
+
+
+def size_at(words, at):
+    pending = 1
+    while pending:
+        pending += words[at + 1] - 1
+        at += 4
+    return at
+
+
+def changed(rng, terms):
+    """A later term with something changed where the Rust and document 01 may differ."""
+    flat = [w for t in terms for w in t]
+    ends = [sum(map(len, terms[:k + 1])) for k in range(len(terms))]
+    places = spots(flat, ends)
+    if not places:
+        return flat
+    # mostly above or beside the marks, where the Rust looks least
+    outside = [p for p in places if not p[3] and not flat[p[0] + 2]]
+    at, _, end, _ = rng.choice(outside if outside and rng.random() < 0.7 else places)
+    kind = rng.randrange(6)
+    marked = [p for p in places if flat[p[0] + 2]]
+    if kind == 0:                                       # another operator
+        flat[at] = flat[at] % 4 + 1
+    elif kind == 1 and flat[at + 1]:                    # the first child left out
+        flat[at + 1] -= 1
+        del flat[at + 4:size_at(flat, at + 4)]
+    elif kind == 2 and flat[at + 1] < 8:                # a child more, behind the others
+        flat[at + 1] += 1
+        flat[end:end] = [rng.randrange(1, 5), 0, 0, 0]
+    elif kind == 3:                                     # a rule that may not be listed
+        here = rng.choice(marked)[0]
+        flat[here + 3] = rng.choice((0, 7, 65535))
+    elif kind == 4:                                     # a mark inside a marked subterm
+        inner = [p for p in places if p[3]]
+        if inner:
+            here, k = rng.choice(inner)[:2]
+            outer = next(p[0] for p in marked if p[1] == k)
+            flat[here + 2:here + 4] = flat[outer + 2:outer + 4]
+    else:                                               # the direction turned
+        here = rng.choice(marked)[0]
+        flat[here + 2] = 3 - flat[here + 2]
+    return flat
+
+
+def unmarked(words):
+    return [0 if i % 4 > 1 else w for i, w in enumerate(words)]
+
+
+def singly(earlier, later):
+    """A step of several marks as steps of one mark each, in words. Both terms agree above the marks."""
+    parts, a, b = [], 0, 0
+    while b < len(later):
+        ends = (size_at(earlier, a), size_at(later, b)) if later[b + 2] else (a + 4, b + 4)
+        parts.append((unmarked(earlier[a:ends[0]]), later[b:ends[1]]))
+        a, b = ends
+    made = []
+    for k, (_, made_here) in enumerate(parts):
+        if made_here[2]:
+            # before it everything is made already, behind it nothing
+            made.append([w for j, (old, new) in enumerate(parts) for w in (unmarked(new) if j < k else new if j == k else old)])
+    return made
+
+
+def split(terms):
+    """the proof with one mark a step"""
+    return terms[:1] + [t for k in range(1, len(terms)) for t in singly(terms[k - 1], terms[k])]

@@ -396,6 +396,9 @@ def words_frame(fields):
 class Run:
     def __init__(self):
         self.kind, self.nodes, self.rules, self.forest, self.words, self.printed = 0, [], [], None, [], []
+        # for those who want more than the text: (left, right, number, (distance, terms)) of each query, (words, number, value) of each
+        # offered proof, and the number and line where the run stopped
+        self.asked, self.offered, self.stopped = [], [], None
 
     def say(self, line):
         self.printed.append(line + '\n')
@@ -437,20 +440,19 @@ class Run:
             self.verdict()
 
     def query(self, number, left, right):
-        try:
-            d, terms = answered(self.forest, left, right, AREA)
-        except Refused as refused:
-            self.say(f'refused {refused.number} line {number}')
+        refused, found = answer(answered, self.forest, left, right, AREA)
+        self.asked.append((left, right, refused, found))
+        if refused:
+            self.say(f'refused {refused} line {number}')
             return
-        self.say(f'distance {d}')
-        for term in terms:
+        self.say(f'distance {found[0]}')
+        for term in found[1]:
             self.say(term_text(term))
 
     def verdict(self):
-        try:
-            self.say(f'accepted {check(self.rules, self.words)}')
-        except Refused as refused:
-            self.say(f'rejected {refused.number} term {refused.place}')
+        refused, value = answer(check, self.rules, self.words)
+        self.offered.append((self.words, refused, value))
+        self.say(f'rejected {refused} term {value}' if refused else f'accepted {value}')
         self.words = []
 
     def whole(self, data):
@@ -465,6 +467,7 @@ class Run:
             if self.kind == 5:
                 raise Refused(2)
         except Refused as refused:
+            self.stopped = refused.number, number
             self.say(f'refused {refused.number} line {number}')
 
 

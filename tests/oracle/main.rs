@@ -10,6 +10,8 @@
 //! Tables are believed: nothing is judged. A query prints `distance D` and each flat term on a line of its own (the distance alone
 //! where it is above 4,095, since the flat proof may then be too large to hold); an offered proof prints `passes`, `fails`
 //! (a step is found to be none) or `panics: WHY`; a query on which egg panics prints `panics: WHY` too.
+//!
+//! An empty line begins another input: what was read is forgotten, and an empty line is printed. So many inputs take one process.
 #![allow(dead_code, unexpected_cfgs)]
 
 mod egg;
@@ -236,6 +238,12 @@ fn verdict(tables: &Tables, words: Vec<u8>) -> String {
 fn run(input: &str) -> String {
     let (mut tables, mut words, mut out) = (Tables::default(), vec![], String::new());
     for line in input.lines() {
+        if line.is_empty() {
+            tables = Tables::default();
+            words.clear();
+            out.push('\n');
+            continue;
+        }
         let pairs = line
             .as_bytes()
             .chunks(2)
