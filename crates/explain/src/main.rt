@@ -7,11 +7,13 @@ use frames::CONNECTION_ROOM;
 use frames::NODE_ROOM;
 use frames::RULE_ROOM;
 use frames::TEXT_ROOM;
+use hex::DIGIT_LIMIT;
 use input::read_all;
 use model::NODE_LIMIT;
 use pieces::KEPT_LIMIT;
 
-const FRAME_ROOM: usize = 4096;
+// A byte of a frame takes two digits of its line.
+const FRAME_ROOM: usize = DIGIT_LIMIT / 2;
 
 const STATUS_FILENO: i32 = 3;
 

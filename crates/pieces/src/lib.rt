@@ -1,5 +1,6 @@
 // Lines gathered from input that comes in pieces of any size. A line may lie in several pieces. Of a line that is too long no more
 // is kept than tells so: it costs no more memory than another.
+use hex::DIGIT_LIMIT;
 ghost use mathlib.Core.Path.{_≡_};
 ghost use Prim.Native.Nat.{_≤_};
 ghost use lib.ListN.{length, drop};
@@ -7,7 +8,7 @@ ghost use Rattle.laws.specs.Area.{splice};
 ghost use Rattle.pieces.specs.Line.{keptLimit, upToFeed, fitting, gathered};
 
 // The most bytes of a line that are kept: one more than it may have.
-pub const KEPT_LIMIT: usize = 8193;
+pub const KEPT_LIMIT: usize = DIGIT_LIMIT + 1;
 
 const LINE_FEED: u8 = 10;
 
