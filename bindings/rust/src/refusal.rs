@@ -15,7 +15,7 @@ pub enum Refusal {
     /// 4: a child is not below its node.
     ChildNotBelow = 4,
     /// 5: a rule number was listed before, or a right variable is absent on the left.
-    RuleTwiceOrUnbound = 5,
+    RuleRepeatedOrUnbound = 5,
     /// 6: a connection's node is not there, its ends are equal or joined already, or current has a parent.
     Connection = 6,
     /// 7: a congruence without support.
@@ -55,7 +55,7 @@ impl Refusal {
         Field,
         TableFull,
         ChildNotBelow,
-        RuleTwiceOrUnbound,
+        RuleRepeatedOrUnbound,
         Connection,
         Unsupported,
         NoSuchNode,
@@ -89,7 +89,7 @@ impl Refusal {
             Field => "unknown kind, kind out of order, wrong length, pattern side over 64 items, field outside its set",
             TableFull => "node 2,049 or rule 257",
             ChildNotBelow => "child not below its node",
-            RuleTwiceOrUnbound => "rule number listed before, or right variable absent on the left",
+            RuleRepeatedOrUnbound => "rule number listed before, or right variable absent on the left",
             Connection => "connection: number not in the node table, ends equal, current has a parent, or ends joined already",
             Unsupported => "congruence without support",
             NoSuchNode => "query number not in the node table",

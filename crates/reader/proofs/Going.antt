@@ -19,7 +19,7 @@ use Rattle.reader.specs.declared.Place.{Place}
 use Rattle.reader.specs.declared.Advance.{Advance}
 use Rattle.reader.specs.declared.Advance.the-variants.{Goes, Stops}
 use Rattle.reader.specs.Reading.{keptLine, AdvanceIs, withinLine}
-use Rattle.reader.proofs.Output.{placeOf, nextOf, countOf}
+use Rattle.reader.proofs.Output.{placeIn, nextOf, countOf}
 
 module _ (line room nws rws cws classes area : List ℕ) where
   -- a line that was taken: its tables hold the next state, and its text stands in the room
@@ -41,12 +41,12 @@ module _ (line room nws rws cws classes area : List ℕ) where
     goes-next true q to n z = z .0
 
     pub goes-held : (b : Bool) (q : Place) (to n : ℕ) → g .held ≤ keptLimit → Is b (Goes q to n) → q .held ≤ keptLimit
-    goes-held false q to n h z = omega (arith, ap (λ (x : Place). x .held) (ap (λ (r : Advance). placeOf r p) (z .0)))
+    goes-held false q to n h z = omega (arith, ap (λ (x : Place). x .held) (ap (λ (r : Advance). placeIn r p) (z .0)))
     goes-held true q to n h z = omega (arith, ap (λ (x : Place). x .held) (z .1))
 
     pub goes-running : (b : Bool) (q : Place) (to n : ℕ) → Is b (Goes q to n) → Running (q .counts) nws rws cws classes area × (n ≤ length room)
     goes-running false q to n z =
-        let same : q ≡ withinLine p (g .held) = ap (λ (r : Advance). placeOf r p) (z .0) in
+        let same : q ≡ withinLine p (g .held) = ap (λ (r : Advance). placeIn r p) (z .0) in
         let none : n ≡ 0 = ap countOf (z .0) in
         (record { state = s; stands = subst (λ (x : Place). Stands (x .counts) nws rws cws classes area s) (sym same) (z .1) }, omega (arith, none))
     goes-running true q to n z = taken-running (lineTurn s (p .line) (lineBytes (take (g .held) line))) (p .line) (q .counts) n (z .2)

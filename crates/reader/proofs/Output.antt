@@ -83,9 +83,9 @@ module _ (line piece : List ℕ) (from held : ℕ) (room : held ≤ keptLimit) (
       ∙ ap (λ (l : List ℕ). feedAll (take (g .held) after) (l ∷ more)) (sym none)
 
 -- what an answer says
-abbrev pub placeOf : Advance → Place → Place
-placeOf (Goes q next n) p = q
-placeOf (Stops n) p = p
+abbrev pub placeIn : Advance → Place → Place
+placeIn (Goes q next n) p = q
+placeIn (Stops n) p = p
 
 abbrev pub nextOf : Advance → ℕ
 nextOf (Goes q next n) = next
@@ -147,7 +147,7 @@ module _ (p : Place) (line piece : List ℕ) (from : ℕ) (room : p .held ≤ ke
       ∙ ap₂ (λ (x y : ℕ). ran s′ x (left new y piece next more)) at none
       ∙ ap (λ (x : ℕ). ran s′ (suc (p .line)) (left new 0 piece x more)) (z .0))
   on-goes q next n out few f false e z =
-      let same : q ≡ withinLine p (k .held) = ap (λ (r : Advance). placeOf r p) (z .0) in
+      let same : q ≡ withinLine p (k .held) = ap (λ (r : Advance). placeIn r p) (z .0) in
       let fits : q .held ≤ keptLimit = omega (arith, ap (λ (x : Place). x .held) same, within line piece from (p .held) room long more) in
       let text-none : take n text ≡ [] = ap (λ (x : ℕ). take x text) (ap countOf (z .0)) in
       ap (λ (l : List ℕ). l ++ out) text-none
