@@ -6,6 +6,7 @@ use mathlib.Core.Path.{_≡_, refl, sym, ap, subst, _∙_}
 use native.Mathlib.Omega.{arith}
 use lib.ListN.{length, drop, length-append}
 use Rattle.model.specs.Run.{start}
+use Rattle.pieces.specs.declared.Gathered.{Gathered}
 use Rattle.pieces.specs.Line.{keptLimit, gathered}
 use Rattle.laws.specs.Area.{splice}
 use Rattle.frames.specs.State.{Lent, textRoom}
@@ -15,14 +16,11 @@ use Rattle.frames.proofs.Runs.{at-start}
 use Rattle.reader.specs.declared.Place.{Place}
 use Rattle.reader.specs.declared.Advance.{Advance}
 use Rattle.reader.specs.declared.Advance.the-variants.{Goes, Stops}
-use Rattle.reader.specs.Reading.{Advanced}
-use Rattle.reader.specs.Fold.{atFirst}
+use Rattle.reader.specs.Fold.{ReadsOn, atFirst}
 use Rattle.reader.proofs.Going.{goes-next, goes-held, goes-running, stops-within, kept-held, kept-within, kept-on}
 use Rattle.explain.specs.declared.input.Stepped.{Stepped}
 use Rattle.explain.specs.declared.input.Stepped.the-variants.{Goes as Next, Ends}
-use Rattle.explain.specs.declared.input.Reading.{Reading}
-use Rattle.explain.specs.declared.input.Reading.the-variants.{Goes as Behind, Ends as Over}
-use Rattle.explain.specs.Reading.{Ready, Rooms, Fits, Shown, Went, Halted, Step, Status, PieceRead}
+use Rattle.explain.specs.Reading.{Ready, Rooms, Fits, Shown, Went, Halted, Step}
 
 -- an answer that is written, or not
 pub shown-on : {a : Advance} {q : Place} {to n : ℕ} → a ≡ Goes q to n → Shown a (Next q to)
@@ -39,67 +37,49 @@ shown-trouble {a} {b} e = by a
     by (Stops n) = inr refl
 
 -- `read_on` has answered
-module _ (p : Place) (piece : List ℕ) (from : ℕ) (nws rws cws classes area line nws′ rws′ cws′ classes′ area′ room : List ℕ)
-    (r : Ready p nws rws cws classes area) where
+module _ (p : Place) (t : Store) (piece : List ℕ) (from : ℕ) (line : List ℕ) (u : Store) (room : List ℕ) (r : Ready p t) where
   abbrev Is : Advance → Type 0
-  Is a = Advanced p piece from nws rws cws classes area a line nws′ rws′ cws′ classes′ area′ room
+  Is a = ReadsOn p t piece from a line u room
+
+  abbrev Then : Stepped → Type 0
+  Then x = Step p t piece from x line u room
+
+  abbrev g : Gathered
+  g = gathered (drop from piece) from (p .held)
 
   pub fits : (a : Advance) → Is a → Fits a room
   fits (Goes q to n) h =
-      let g = gathered (drop from piece) from (p .held) in
-      let u = r .running in
-      goes-running line room nws′ rws′ cws′ classes′ area′ p g (u .state) (g .whole) q to n (h (u .state) (u .stands)) .1
+      let s = r .running in
+      goes-running line room (u .nws) (u .rws) (u .cws) (u .classes) (u .area) p g (s .state) (g .whole) q to n (h (s .state) (s .stands)) .1
   fits (Stops n) h =
-      let g = gathered (drop from piece) from (p .held) in
-      let u = r .running in
-      stops-within line room nws′ rws′ cws′ classes′ area′ p g (u .state) (g .whole) n (h (u .state) (u .stands))
+      let s = r .running in
+      stops-within line room (u .nws) (u .rws) (u .cws) (u .classes) (u .area) p g (s .state) (g .whole) n (h (s .state) (s .stands))
 
-  pub stepped : (a : Advance) (x : Stepped) → Is a → Shown a x → Step p piece from nws rws cws classes area x line nws′ rws′ cws′ classes′ area′ room
-  stepped (Goes q to n) x h w =
-      ⊎-elim
-      (λ e. subst (λ (y : Stepped). Step p piece from nws rws cws classes area y line nws′ rws′ cws′ classes′ area′ room) (sym e) (record { count = n; is = h }))
-      (λ e. subst (λ (y : Stepped). Step p piece from nws rws cws classes area y line nws′ rws′ cws′ classes′ area′ room) (sym e) (inl refl))
-      w
-  stepped (Stops n) x h w =
-      ⊎-elim
-      (λ e. subst (λ (y : Stepped). Step p piece from nws rws cws classes area y line nws′ rws′ cws′ classes′ area′ room) (sym e) (inr (refl, record { count = n; is = h })))
-      (λ e. subst (λ (y : Stepped). Step p piece from nws rws cws classes area y line nws′ rws′ cws′ classes′ area′ room) (sym e) (inl refl))
-      w
+  pub stepped : (a : Advance) (x : Stepped) → Is a → Shown a x → Then x
+  stepped (Goes q to n) x h w = ⊎-elim (λ e. subst Then (sym e) (record { count = n; is = h })) (λ e. subst Then (sym e) (inl refl)) w
+  stepped (Stops n) x h w = ⊎-elim (λ e. subst Then (sym e) (inr (refl, record { count = n; is = h }))) (λ e. subst Then (sym e) (inl refl)) w
 
-  -- behind a step that goes on
-  module _ (old : List ℕ) (long : length old ≡ keptLimit) (x : Stepped) (q : Place) (to : ℕ) (e : x ≡ Next q to)
-      (w : Step p piece from nws rws cws classes area x line nws′ rws′ cws′ classes′ area′ room) where
-    went : Went p piece from nws rws cws classes area q to line nws′ rws′ cws′ classes′ area′ room
-    went = subst (λ (y : Stepped). Step p piece from nws rws cws classes area y line nws′ rws′ cws′ classes′ area′ room) e w
-
-    pub ready-on : Ready q nws′ rws′ cws′ classes′ area′
+  -- it goes on
+  module _ (old : List ℕ) (long : length old ≡ keptLimit) (q : Place) (to n : ℕ) (h : Is (Goes q to n)) where
+    pub ready-on : Ready q u
     ready-on =
-        let g = gathered (drop from piece) from (p .held) in
-        let u = r .running in
-        let h = went .is (u .state) (u .stands) in
+        let s = r .running in
+        let z = h (s .state) (s .stands) in
         record {
-          running = goes-running line room nws′ rws′ cws′ classes′ area′ p g (u .state) (g .whole) q to (went .count) h .0;
-          held = goes-held line room nws′ rws′ cws′ classes′ area′ p g (u .state) (g .whole) q to (went .count) (kept-held old piece from (p .held) (r .held) long) h;
+          running = goes-running line room (u .nws) (u .rws) (u .cws) (u .classes) (u .area) p g (s .state) (g .whole) q to n z .0;
+          held = goes-held line room (u .nws) (u .rws) (u .cws) (u .classes) (u .area) p g (s .state) (g .whole) q to n (kept-held old piece from (p .held) (r .held) long) z;
         }
 
-    next-is : to ≡ gathered (drop from piece) from (p .held) .next
+    next-is : to ≡ g .next
     next-is =
-        let g = gathered (drop from piece) from (p .held) in
-        let u = r .running in
-        goes-next line room nws′ rws′ cws′ classes′ area′ p g (u .state) (g .whole) q to (went .count) (went .is (u .state) (u .stands))
+        let s = r .running in
+        goes-next line room (u .nws) (u .rws) (u .cws) (u .classes) (u .area) p g (s .state) (g .whole) q to n (h (s .state) (s .stands))
 
     pub within-on : from ≤ length piece → to ≤ length piece
-    within-on h = omega (arith, next-is, kept-within old piece from (p .held) (r .held) long h)
+    within-on w = omega (arith, next-is, kept-within old piece from (p .held) (r .held) long w)
 
     pub farther-on : from < length piece → from < to
-    farther-on h = omega (arith, next-is, kept-on old piece from (p .held) (r .held) long h)
-
--- a step that ends the run has a status
-pub ended : (p : Place) (piece : List ℕ) (from : ℕ) (nws rws cws classes area line nws′ rws′ cws′ classes′ area′ room : List ℕ) (x : Stepped) (n : ℕ) →
-    x ≡ Ends n → Step p piece from nws rws cws classes area x line nws′ rws′ cws′ classes′ area′ room → Status n
-ended p piece from nws rws cws classes area line nws′ rws′ cws′ classes′ area′ room x n e w =
-    ⊎-elim (λ z. omega (arith, z)) (λ z. omega (arith, z .0))
-    (subst (λ (y : Stepped). Step p piece from nws rws cws classes area y line nws′ rws′ cws′ classes′ area′ room) e w)
+    farther-on w = omega (arith, next-is, kept-on old piece from (p .held) (r .held) long w)
 
 -- everything that is lent is as long as it was
 pub record Alike (line bytes nws rws cws classes area room line′ bytes′ nws′ rws′ cws′ classes′ area′ room′ : List ℕ) : Type 0 where
@@ -146,16 +126,5 @@ end-within kind line held old new n e w h =
     omega (arith, e, ap length w, length-append text (drop (0 + length text) old))
 
 -- before the first byte any tables are ready
-pub ready-first : (nws rws cws classes area : List ℕ) (p : Place) → p ≡ atFirst → Ready p nws rws cws classes area
-ready-first nws rws cws classes area p e =
-    let t : Store = record { nws = nws; rws = rws; cws = cws; classes = classes; area = area } in
-    subst (λ (x : Place). Ready x nws rws cws classes area) (sym e)
-    (record { running = record { state = start; stands = at-start t }; held = omega arith })
-
--- behind a piece: the place, or the status
-module _ (nws rws cws classes area : List ℕ) (x : Reading) (h : PieceRead x nws rws cws classes area) where
-  pub behind-piece : (q : Place) → x ≡ Behind q → Ready q nws rws cws classes area
-  behind-piece q e = subst (λ (y : Reading). PieceRead y nws rws cws classes area) e h
-
-  pub over : (n : ℕ) → x ≡ Over n → Status n
-  over n e = subst (λ (y : Reading). PieceRead y nws rws cws classes area) e h
+pub ready-first : (t : Store) (p : Place) → p ≡ atFirst → Ready p t
+ready-first t p e = subst (λ (x : Place). Ready x t) (sym e) (record { running = record { state = start; stands = at-start t }; held = omega arith })

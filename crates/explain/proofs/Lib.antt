@@ -1,1 +1,4 @@
 pub mod Going
+pub mod Chains
+pub mod Ends
+pub mod Runs

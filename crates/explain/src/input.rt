@@ -10,8 +10,10 @@ ghost use mathlib.Core.Path.{_≡_};
 ghost use Prim.Native.Nat.{_≤_};
 ghost use lib.ListN.{length};
 ghost use Rattle.frames.specs.State.{textRoom};
+ghost use Rattle.reader.specs.Reading.{keptLine};
 ghost use Rattle.reader.specs.Fold.{atFirst};
-ghost use Rattle.explain.specs.Reading.{Ready, Rooms, Fits, Shown, Step, Status, PieceRead};
+ghost use Rattle.explain.specs.Reading.{stored, Ready, Rooms, Fits, Shown, Step};
+ghost use Rattle.explain.specs.Pieces.{PieceTaken, Ended, PieceRead, CameTo};
 
 // What a run comes to: everything is answered and accepted, some query is refused or proof rejected, a refusal stopped it, or there
 // is trouble with the input or the output.
@@ -83,9 +85,10 @@ fn step(
     area: &mut [u16],
     room: &mut [u8],
 ) -> Stepped
-    requires { ⌜ Ready place (now nodes) (now rules) (now conns) (now classes) (now area) × Rooms (now line) (now bytes) (now nodes) (now rules) (now conns) (now classes) (now area) (now room) ⌝ }
+    requires { ⌜ Ready place (stored (now nodes) (now rules) (now conns) (now classes) (now area)) × Rooms (now line) (now bytes) (now nodes) (now rules) (now conns) (now classes) (now area) (now room) ⌝ }
     requires { ⌜ from ≤ length (now piece) ⌝ }
-    ensures { λ r. ⌜ Step place (now (piece .entry)) from (now (nodes .entry)) (now (rules .entry)) (now (conns .entry)) (now (classes .entry)) (now (area .entry)) r (now (line .exit)) (now (nodes .exit)) (now (rules .exit)) (now (conns .exit)) (now (classes .exit)) (now (area .exit)) (now (room .exit)) ⌝ }
+    ensures { λ r. ⌜ Step place (stored (now (nodes .entry)) (now (rules .entry)) (now (conns .entry)) (now (classes .entry)) (now (area .entry))) (now (piece .entry)) from r (now (line .exit)) (stored (now (nodes .exit)) (now (rules .exit)) (now (conns .exit)) (now (classes .exit)) (now (area .exit))) (now (room .exit)) ⌝ }
+    ensures { λ _. ⌜ now (line .exit) ≡ keptLine (now (line .entry)) (place .held) (now (piece .entry)) from ⌝ }
 {
     let advance = read_on(
         place,
@@ -116,8 +119,8 @@ fn take_piece(
     area: &mut [u16],
     room: &mut [u8],
 ) -> Reading
-    requires { ⌜ Ready place (now nodes) (now rules) (now conns) (now classes) (now area) × Rooms (now line) (now bytes) (now nodes) (now rules) (now conns) (now classes) (now area) (now room) ⌝ }
-    ensures { λ r. ⌜ PieceRead r (now (nodes .exit)) (now (rules .exit)) (now (conns .exit)) (now (classes .exit)) (now (area .exit)) ⌝ }
+    requires { ⌜ Ready place (stored (now nodes) (now rules) (now conns) (now classes) (now area)) × Rooms (now line) (now bytes) (now nodes) (now rules) (now conns) (now classes) (now area) (now room) ⌝ }
+    ensures { λ r. ⌜ PieceTaken place (stored (now (nodes .entry)) (now (rules .entry)) (now (conns .entry)) (now (classes .entry)) (now (area .entry))) (now (line .entry)) (now (piece .entry)) r (stored (now (nodes .exit)) (now (rules .exit)) (now (conns .exit)) (now (classes .exit)) (now (area .exit))) (now (line .exit)) ⌝ }
 {
     let mut at = place;
     let mut from = 0;
@@ -151,7 +154,7 @@ fn take_piece(
 // The end of the input: what is printed then, and what the run came to.
 fn end(place: Place, room: &mut [u8]) -> u8
     requires { ⌜ length (now room) ≡ textRoom ⌝ }
-    ensures { λ r. ⌜ Status r ⌝ }
+    ensures { λ r. ⌜ Ended place r ⌝ }
 {
     let counts = place.counts;
     let count = finish(counts, place.line, place.held, room);
@@ -181,8 +184,8 @@ fn read_piece(
     area: &mut [u16],
     room: &mut [u8],
 ) -> Reading
-    requires { ⌜ Ready place (now nodes) (now rules) (now conns) (now classes) (now area) × Rooms (now line) (now bytes) (now nodes) (now rules) (now conns) (now classes) (now area) (now room) ⌝ }
-    ensures { λ r. ⌜ PieceRead r (now (nodes .exit)) (now (rules .exit)) (now (conns .exit)) (now (classes .exit)) (now (area .exit)) ⌝ }
+    requires { ⌜ Ready place (stored (now nodes) (now rules) (now conns) (now classes) (now area)) × Rooms (now line) (now bytes) (now nodes) (now rules) (now conns) (now classes) (now area) (now room) ⌝ }
+    ensures { λ r. ⌜ PieceRead place (stored (now (nodes .entry)) (now (rules .entry)) (now (conns .entry)) (now (classes .entry)) (now (area .entry))) (now (line .entry)) (now (piece .exit)) r (stored (now (nodes .exit)) (now (rules .exit)) (now (conns .exit)) (now (classes .exit)) (now (area .exit))) (now (line .exit)) ⌝ }
 {
     let got = libc::read(STDIN_FILENO, piece);
     if got < 0 {
@@ -221,7 +224,7 @@ pub fn read_all(
     room: &mut [u8],
 ) -> u8
     requires { ⌜ Rooms (now line) (now bytes) (now nodes) (now rules) (now conns) (now classes) (now area) (now room) ⌝ }
-    ensures { λ r. ⌜ Status r ⌝ }
+    ensures { λ r. ⌜ CameTo (stored (now (nodes .entry)) (now (rules .entry)) (now (conns .entry)) (now (classes .entry)) (now (area .entry))) (now (line .entry)) r ⌝ }
 {
     let mut turns = u64::MAX;
     let mut at = first();

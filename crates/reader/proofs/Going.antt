@@ -10,7 +10,7 @@ use Rattle.model.specs.Frame.{lineBytes}
 use Rattle.model.specs.Run.{State, Turn, go, stop, lineTurn}
 use Rattle.pieces.specs.declared.Gathered.{Gathered}
 use Rattle.pieces.specs.Line.{keptLimit, gathered}
-use Rattle.pieces.proofs.Reading.{gather-held, gather-within, gather-on}
+use Rattle.pieces.proofs.Reading.{gather-held, gather-length, gather-within, gather-on}
 use Rattle.frames.specs.declared.Counts.{Counts}
 use Rattle.frames.specs.declared.Printed.the-variants.{Goes as Taken, Stops as Ended}
 use Rattle.frames.specs.State.{Stands, Running}
@@ -62,6 +62,9 @@ module _ (old piece : List ℕ) (from held : ℕ) (room : held ≤ keptLimit) (l
 
   pub kept-held : g .held ≤ keptLimit
   kept-held = gather-held piece old (keptLine old held piece from) from held g room long refl refl
+
+  pub kept-length : length (keptLine old held piece from) ≡ keptLimit
+  kept-length = gather-length piece old (keptLine old held piece from) from held g room long refl refl
 
   pub kept-within : from ≤ length piece → g .next ≤ length piece
   kept-within h = gather-within piece old (keptLine old held piece from) from held g room long refl refl h

@@ -1,5 +1,6 @@
 -- `explain::main` is safe and ends: everything lent to the run is as long as it asks.
 use mathlib.Core.Path.{refl}
+use Rattle.explain.proofs.Runs.{digit}
 use native.Mathlib.Omega.{arith}
 use borrow.Author.Needs.{needs}
 use Rattle.explain.proofs.main.Statement.{statement}
@@ -42,7 +43,7 @@ arg-count-requires : tie.Need-arg-count-requires
 arg-count-requires c κs = search needs
 
 add-t34 : tie.Need-add-t34
-add-t34 c = omega (arith, c .before .before .before .before .before .before .before .before .before .before .before .read-all .ensures)
+add-t34 c = omega (arith, digit (c .before .before .before .before .before .before .before .before .before .before .before .read-all .ensures))
 
 slice-aggregate-write-all : tie.Need-slice-aggregate-write-all
 slice-aggregate-write-all c = search needs

@@ -1,8 +1,10 @@
--- `explain::input::read_all` meets its contract: from piece to piece the tables hold a state.
+-- `explain::input::read_all` meets its contract: from piece to piece the tables hold a state, and the run that goes on is one run from the start.
+use mathlib.Core.Logic.{inl}
 use mathlib.Core.Path.{_≡_, refl, _∙_}
 use lib.ListN.{length}
-use Rattle.explain.specs.Reading.{Ready}
-use Rattle.explain.proofs.Going.{Alike, alike-on, rooms-again, ready-first, behind-piece, over}
+use Rattle.explain.specs.Reading.{stored, Ready}
+use Rattle.explain.proofs.Going.{Alike, alike-on, rooms-again, ready-first}
+use Rattle.explain.proofs.Runs.{Since, since-first, on-ready, on-since, over}
 use borrow.Author.Needs.{needs}
 use native.Mathlib.Omega.{arith}
 use Rattle.explain.proofs.input.read_all.Statement.{statement}
@@ -10,7 +12,8 @@ use Rattle.explain.proofs.input.read_all.Tie as tie
 
 abbrev Inv-loop : tie.InvT-loop
 Inv-loop piece₀ line₀ bytes₀ nodes₀ rules₀ conns₀ classes₀ area₀ room₀ turns₀ at₀ piece line bytes nodes rules conns classes area room turns at =
-    Ready at nodes rules conns classes area × (length piece ≡ length piece₀)
+    (Ready at (stored nodes rules conns classes area) × Since (stored nodes₀ rules₀ conns₀ classes₀ area₀) line₀ at (stored nodes rules conns classes area) line)
+    × (length piece ≡ length piece₀)
     × Alike line₀ bytes₀ nodes₀ rules₀ conns₀ classes₀ area₀ room₀ line bytes nodes rules conns classes area room
 
 abbrev μ-loop : tie.MeasureT-loop
@@ -44,12 +47,14 @@ first-requires c κs = search needs
 loop-holds : tie.Need-loop-holds Inv-loop μ-loop
 loop-holds c =
     let a = c .before .before .before .before .before .before .before .before .before .before .args in
-    (ready-first (a .nodes .now) (a .rules .now) (a .conns .now) (a .classes .now) (a .area .now) _ (c .first .ensures), refl, record { as-line = refl; as-bytes = refl; as-nodes = refl; as-rules = refl; as-conns = refl; as-classes = refl; as-area = refl; as-room = refl })
+    let t = stored (a .nodes .now) (a .rules .now) (a .conns .now) (a .classes .now) (a .area .now) in
+    let e = c .first .ensures in
+    ((ready-first t _ e, since-first t (a .line .now) _ e), refl, record { as-line = refl; as-bytes = refl; as-nodes = refl; as-rules = refl; as-conns = refl; as-classes = refl; as-area = refl; as-room = refl })
 
 read-piece-requires : tie.Need-read-piece-requires Inv-loop μ-loop
 read-piece-requires c κs =
     let i = c .before .before .before .before .before .before .before .before .before .before .loop .inv in
-    (i .0, rooms-again (c .before .before .before .before .before .before .before .before .before .before .before .before .before .before .before .before .before .before .before .before .before .pre) (i .2))
+    (i .0 .0, rooms-again (c .before .before .before .before .before .before .before .before .before .before .before .before .before .before .before .before .before .before .before .before .before .pre) (i .2))
 
 enum-known-reading : tie.Need-enum-known-reading Inv-loop μ-loop
 enum-known-reading c = search needs
@@ -88,7 +93,7 @@ returns : tie.Need-returns Inv-loop μ-loop
 returns c =
     let t = c .before .before .before .before .before .before .before .before .before .before .before .before .before .before .before .before .before .before .before .before .before in
     let l = t .read-piece .last in
-    over (l .1 .1 .1 .1 .0) (l .1 .1 .1 .1 .1 .0) (l .1 .1 .1 .1 .1 .1 .0) (l .1 .1 .1 .1 .1 .1 .1 .0) (l .1 .1 .1 .1 .1 .1 .1 .1 .0)
+    over (t .before .before .before .before .before .before .before .before .before .before .before .loop .inv .0 .1) (l .1 .0) (stored (l .1 .1 .1 .1 .0) (l .1 .1 .1 .1 .1 .0) (l .1 .1 .1 .1 .1 .1 .0) (l .1 .1 .1 .1 .1 .1 .1 .0) (l .1 .1 .1 .1 .1 .1 .1 .1 .0)) (l .1 .1 .0)
     (t .read-piece .result) (t .read-piece .ensures) _ (c .before .reading2 .given .1)
 
 sub-turns : tie.Need-sub-turns Inv-loop μ-loop
@@ -101,10 +106,17 @@ loop-again : tie.Need-loop-again Inv-loop μ-loop
 loop-again c =
     let k = c .before .before .before in
     let t = k .before .before .before .before .before .before .before .before .before .before .before .before .before .before .before .before .before .before in
-    let i = t .before .before .before .before .before .before .before .before .before .before .before .loop .inv in
+    let m = t .before .before .before .before .before .before .before .before .before .before .before in
+    let i = m .loop .inv in
+    let rooms = rooms-again (m .before .before .before .before .before .before .before .before .before .before .before .pre) (i .2) in
+    let e = c .before .reading .given .1 in
     let l = t .read-piece .last in (
-      behind-piece (l .1 .1 .1 .1 .0) (l .1 .1 .1 .1 .1 .0) (l .1 .1 .1 .1 .1 .1 .0) (l .1 .1 .1 .1 .1 .1 .1 .0) (l .1 .1 .1 .1 .1 .1 .1 .1 .0)
-          (t .read-piece .result) (t .read-piece .ensures) _ (c .before .reading .given .1),
+      (
+        on-ready (i .0 .1) (l .1 .0) (stored (l .1 .1 .1 .1 .0) (l .1 .1 .1 .1 .1 .0) (l .1 .1 .1 .1 .1 .1 .0) (l .1 .1 .1 .1 .1 .1 .1 .0) (l .1 .1 .1 .1 .1 .1 .1 .1 .0)) (l .1 .1 .0)
+            (t .read-piece .result) (t .read-piece .ensures) (i .0 .0) (rooms .line) _ e,
+        on-since (i .0 .1) (l .1 .0) (stored (l .1 .1 .1 .1 .0) (l .1 .1 .1 .1 .1 .0) (l .1 .1 .1 .1 .1 .1 .0) (l .1 .1 .1 .1 .1 .1 .1 .0) (l .1 .1 .1 .1 .1 .1 .1 .1 .0)) (l .1 .1 .0)
+            (t .read-piece .result) (t .read-piece .ensures) _ e,
+      ),
       piece-alike k .0 ∙ i .1,
       alike-on (i .2) (piece-alike k .1),
     )
@@ -137,7 +149,7 @@ same-length-18 : tie.Need-same-length-18 Inv-loop μ-loop
 same-length-18 c = c .before .loop .inv .2 .as-room
 
 returns-2 : tie.Need-returns-2 Inv-loop μ-loop
-returns-2 c = omega arith
+returns-2 c = inl refl
 
 pub read-all-spec : {M : Type 1} → statement M
 read-all-spec =

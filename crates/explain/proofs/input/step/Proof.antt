@@ -1,4 +1,5 @@
 -- `explain::input::step` meets its contract: what `read_on` answers, printed.
+use Rattle.explain.specs.Reading.{stored}
 use Rattle.explain.proofs.Going.{fits, stepped}
 use native.Mathlib.Omega.{arith}
 use borrow.Author.Needs.{needs}
@@ -22,9 +23,9 @@ show-requires c κs =
     let k = at-read c in
     let a = at-start k .args in
     let l = k .read-on .last in
-    fits (a .place) (a .piece .now) (a .from) (a .nodes .now) (a .rules .now) (a .conns .now) (a .classes .now) (a .area .now)
-    (l .1 .1 .1 .0) (l .1 .1 .1 .1 .1 .0) (l .1 .1 .1 .1 .1 .1 .0) (l .1 .1 .1 .1 .1 .1 .1 .0) (l .1 .1 .1 .1 .1 .1 .1 .1 .0) (l .1 .1 .1 .1 .1 .1 .1 .1 .1 .0) (l .1 .1 .1 .1 .1 .1 .1 .1 .1 .1 .0)
-    (at-start k .pre .0 .0) (k .read-on .result) (k .read-on .ensures .0)
+    fits (a .place) (stored (a .nodes .now) (a .rules .now) (a .conns .now) (a .classes .now) (a .area .now)) (a .piece .now) (a .from) (l .1 .1 .1 .0)
+    (stored (l .1 .1 .1 .1 .1 .0) (l .1 .1 .1 .1 .1 .1 .0) (l .1 .1 .1 .1 .1 .1 .1 .0) (l .1 .1 .1 .1 .1 .1 .1 .1 .0) (l .1 .1 .1 .1 .1 .1 .1 .1 .1 .0))
+    (l .1 .1 .1 .1 .1 .1 .1 .1 .1 .1 .0) (at-start k .pre .0 .0) (k .read-on .result) (k .read-on .ensures .0)
 
 same-length : tie.Need-same-length
 same-length c = search needs
@@ -55,9 +56,11 @@ returns c =
     let k = at-read (c .before) in
     let a = at-start k .args in
     let l = k .read-on .last in
-    stepped (a .place) (a .piece .now) (a .from) (a .nodes .now) (a .rules .now) (a .conns .now) (a .classes .now) (a .area .now)
-    (l .1 .1 .1 .0) (l .1 .1 .1 .1 .1 .0) (l .1 .1 .1 .1 .1 .1 .0) (l .1 .1 .1 .1 .1 .1 .1 .0) (l .1 .1 .1 .1 .1 .1 .1 .1 .0) (l .1 .1 .1 .1 .1 .1 .1 .1 .1 .0) (l .1 .1 .1 .1 .1 .1 .1 .1 .1 .1 .0)
-    (at-start k .pre .0 .0) (k .read-on .result) _ (k .read-on .ensures .0) (c .show .ensures)
+    let is =
+    stepped (a .place) (stored (a .nodes .now) (a .rules .now) (a .conns .now) (a .classes .now) (a .area .now)) (a .piece .now) (a .from) (l .1 .1 .1 .0)
+    (stored (l .1 .1 .1 .1 .1 .0) (l .1 .1 .1 .1 .1 .1 .0) (l .1 .1 .1 .1 .1 .1 .1 .0) (l .1 .1 .1 .1 .1 .1 .1 .1 .0) (l .1 .1 .1 .1 .1 .1 .1 .1 .1 .0))
+    (l .1 .1 .1 .1 .1 .1 .1 .1 .1 .1 .0) (at-start k .pre .0 .0) (k .read-on .result) _ (k .read-on .ensures .0) (c .show .ensures) in
+    (is, k .read-on .ensures .1)
 
 pub step-spec : {M : Type 1} → statement M
 step-spec =

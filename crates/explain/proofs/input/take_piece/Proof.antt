@@ -1,9 +1,11 @@
--- `explain::input::take_piece` meets its contract: from step to step the tables hold a state, up to the piece's end.
+-- `explain::input::take_piece` meets its contract: each step makes the chain longer, up to the piece's end.
 use Prim.Native.Nat.{_≤_, _-_}
 use mathlib.Core.Path.{refl}
 use lib.ListN.{length}
-use Rattle.explain.specs.Reading.{Ready}
-use Rattle.explain.proofs.Going.{Alike, alike-on, rooms-again, ready-on, within-on, farther-on, ended}
+use Rattle.reader.specs.Fold.{Through, here}
+use Rattle.explain.specs.Reading.{stored}
+use Rattle.explain.proofs.Going.{Alike, alike-on, rooms-again}
+use Rattle.explain.proofs.Chains.{through-ready, chain-farther, chain-on, chain-within, chain-end, chain-done}
 use borrow.Author.Needs.{needs}
 use native.Mathlib.Omega.{arith}
 use Rattle.explain.proofs.input.take_piece.Statement.{statement}
@@ -11,7 +13,7 @@ use Rattle.explain.proofs.input.take_piece.Tie as tie
 
 abbrev Inv-loop : tie.InvT-loop
 Inv-loop piece line₀ bytes₀ nodes₀ rules₀ conns₀ classes₀ area₀ room₀ at₀ from₀ line bytes nodes rules conns classes area room at from =
-    Ready at nodes rules conns classes area × (from ≤ length piece)
+    Through piece at₀ (stored nodes₀ rules₀ conns₀ classes₀ area₀) line₀ 0 at (stored nodes rules conns classes area) line from × (from ≤ length piece)
     × Alike line₀ bytes₀ nodes₀ rules₀ conns₀ classes₀ area₀ room₀ line bytes nodes rules conns classes area room
 
 abbrev μ-loop : tie.MeasureT-loop
@@ -38,12 +40,13 @@ step-alike c =
     }
 
 loop-holds : tie.Need-loop-holds Inv-loop μ-loop
-loop-holds c = (c .before .before .before .before .before .before .before .before .before .pre .0, omega arith, record { as-line = refl; as-bytes = refl; as-nodes = refl; as-rules = refl; as-conns = refl; as-classes = refl; as-area = refl; as-room = refl })
+loop-holds c = (here, omega arith, record { as-line = refl; as-bytes = refl; as-nodes = refl; as-rules = refl; as-conns = refl; as-classes = refl; as-area = refl; as-room = refl })
 
 step-requires : tie.Need-step-requires Inv-loop μ-loop
 step-requires c κs =
     let i = c .before .before .before .before .before .before .before .before .before .loop .inv in
-    ((i .0, rooms-again (c .before .before .before .before .before .before .before .before .before .before .before .before .before .before .before .before .before .before .before .pre .1) (i .2)), i .1)
+    let p = c .before .before .before .before .before .before .before .before .before .before .before .before .before .before .before .before .before .before .before .pre in
+    ((through-ready (i .0) (p .0) (p .1 .line) .0, rooms-again (p .1) (i .2)), i .1)
 
 enum-known-stepped : tie.Need-enum-known-stepped Inv-loop μ-loop
 enum-known-stepped c = search needs
@@ -55,14 +58,12 @@ loop-less c =
     let s = m .before .before .before .before .before .before .before .before .before .before in
     let i = m .loop .inv in
     let l = t .step .last in
-    let r = rooms-again (s .pre .1) (i .2) in
-    let here = t .before .before .before .before .before .before .before .before .before .loop-test .taken in
+    let more = t .before .before .before .before .before .before .before .before .before .loop-test .taken in
     omega (
       arith,
-      here,
-      farther-on (m .loop .at) (s .args .piece .now) (m .loop .from) (m .loop .nodes) (m .loop .rules) (m .loop .conns) (m .loop .classes) (m .loop .area)
-          (l .1 .1 .1 .0) (l .1 .1 .1 .1 .1 .0) (l .1 .1 .1 .1 .1 .1 .0) (l .1 .1 .1 .1 .1 .1 .1 .0) (l .1 .1 .1 .1 .1 .1 .1 .1 .0) (l .1 .1 .1 .1 .1 .1 .1 .1 .1 .0) (l .1 .1 .1 .1 .1 .1 .1 .1 .1 .1 .0)
-          (i .0) (m .loop .line) (r .line) (t .step .result) _ _ (c .before .stepped .given .1) (t .step .ensures) here,
+      more,
+      chain-farther (i .0) (s .pre .0) (s .pre .1 .line) (l .1 .1 .1 .0) (stored (l .1 .1 .1 .1 .1 .0) (l .1 .1 .1 .1 .1 .1 .0) (l .1 .1 .1 .1 .1 .1 .1 .0) (l .1 .1 .1 .1 .1 .1 .1 .1 .0) (l .1 .1 .1 .1 .1 .1 .1 .1 .1 .0)) (l .1 .1 .1 .1 .1 .1 .1 .1 .1 .1 .0)
+          (t .step .result) (t .step .ensures .0) _ _ (c .before .stepped .given .1) more,
     )
 
 loop-again : tie.Need-loop-again Inv-loop μ-loop
@@ -72,14 +73,11 @@ loop-again c =
     let s = m .before .before .before .before .before .before .before .before .before .before in
     let i = m .loop .inv in
     let l = t .step .last in
-    let r = rooms-again (s .pre .1) (i .2) in
     let e = c .before .stepped .given .1 in (
-      ready-on (m .loop .at) (s .args .piece .now) (m .loop .from) (m .loop .nodes) (m .loop .rules) (m .loop .conns) (m .loop .classes) (m .loop .area)
-          (l .1 .1 .1 .0) (l .1 .1 .1 .1 .1 .0) (l .1 .1 .1 .1 .1 .1 .0) (l .1 .1 .1 .1 .1 .1 .1 .0) (l .1 .1 .1 .1 .1 .1 .1 .1 .0) (l .1 .1 .1 .1 .1 .1 .1 .1 .1 .0) (l .1 .1 .1 .1 .1 .1 .1 .1 .1 .1 .0)
-          (i .0) (m .loop .line) (r .line) (t .step .result) _ _ e (t .step .ensures),
-      within-on (m .loop .at) (s .args .piece .now) (m .loop .from) (m .loop .nodes) (m .loop .rules) (m .loop .conns) (m .loop .classes) (m .loop .area)
-          (l .1 .1 .1 .0) (l .1 .1 .1 .1 .1 .0) (l .1 .1 .1 .1 .1 .1 .0) (l .1 .1 .1 .1 .1 .1 .1 .0) (l .1 .1 .1 .1 .1 .1 .1 .1 .0) (l .1 .1 .1 .1 .1 .1 .1 .1 .1 .0) (l .1 .1 .1 .1 .1 .1 .1 .1 .1 .1 .0)
-          (i .0) (m .loop .line) (r .line) (t .step .result) _ _ e (t .step .ensures) (i .1),
+      chain-on (i .0) (s .pre .0) (s .pre .1 .line) (l .1 .1 .1 .0) (stored (l .1 .1 .1 .1 .1 .0) (l .1 .1 .1 .1 .1 .1 .0) (l .1 .1 .1 .1 .1 .1 .1 .0) (l .1 .1 .1 .1 .1 .1 .1 .1 .0) (l .1 .1 .1 .1 .1 .1 .1 .1 .1 .0)) (l .1 .1 .1 .1 .1 .1 .1 .1 .1 .1 .0)
+          (t .step .result) (t .step .ensures .0) _ _ e (t .step .ensures .1),
+      chain-within (i .0) (s .pre .0) (s .pre .1 .line) (l .1 .1 .1 .0) (stored (l .1 .1 .1 .1 .1 .0) (l .1 .1 .1 .1 .1 .1 .0) (l .1 .1 .1 .1 .1 .1 .1 .0) (l .1 .1 .1 .1 .1 .1 .1 .1 .0) (l .1 .1 .1 .1 .1 .1 .1 .1 .1 .0)) (l .1 .1 .1 .1 .1 .1 .1 .1 .1 .1 .0)
+          (t .step .result) (t .step .ensures .0) _ _ e (i .1),
       alike-on (i .2) (step-alike (c .before .before .before)),
     )
 
@@ -117,10 +115,8 @@ returns c =
     let s = m .before .before .before .before .before .before .before .before .before .before in
     let i = m .loop .inv in
     let l = t .step .last in
-    let r = rooms-again (s .pre .1) (i .2) in
-    ended (m .loop .at) (s .args .piece .now) (m .loop .from) (m .loop .nodes) (m .loop .rules) (m .loop .conns) (m .loop .classes) (m .loop .area)
-    (l .1 .1 .1 .0) (l .1 .1 .1 .1 .1 .0) (l .1 .1 .1 .1 .1 .1 .0) (l .1 .1 .1 .1 .1 .1 .1 .0) (l .1 .1 .1 .1 .1 .1 .1 .1 .0) (l .1 .1 .1 .1 .1 .1 .1 .1 .1 .0) (l .1 .1 .1 .1 .1 .1 .1 .1 .1 .1 .0)
-    (t .step .result) _ (c .before .stepped2 .given .1) (t .step .ensures)
+    chain-end (i .0) (s .pre .0) (s .pre .1 .line) (l .1 .1 .1 .0) (stored (l .1 .1 .1 .1 .1 .0) (l .1 .1 .1 .1 .1 .1 .0) (l .1 .1 .1 .1 .1 .1 .1 .0) (l .1 .1 .1 .1 .1 .1 .1 .1 .0) (l .1 .1 .1 .1 .1 .1 .1 .1 .1 .0)) (l .1 .1 .1 .1 .1 .1 .1 .1 .1 .1 .0)
+    (t .step .result) (t .step .ensures .0) _ (c .before .stepped2 .given .1) (t .step .ensures .1)
 
 same-length-9 : tie.Need-same-length-9 Inv-loop μ-loop
 same-length-9 c = c .before .loop .inv .2 .as-line
@@ -147,7 +143,7 @@ same-length-16 : tie.Need-same-length-16 Inv-loop μ-loop
 same-length-16 c = c .before .loop .inv .2 .as-room
 
 returns-2 : tie.Need-returns-2 Inv-loop μ-loop
-returns-2 c = c .before .loop .inv .0
+returns-2 c = chain-done (c .before .loop .inv .0) (omega arith)
 
 pub take-piece-spec : {M : Type 1} → statement M
 take-piece-spec =
