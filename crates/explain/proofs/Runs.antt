@@ -1,15 +1,20 @@
 -- From piece to piece: whatever is printed from where the program stands is printed from the start, so the run that goes on is one run.
-use Prim.Native.Nat.{ℕ, _≤_}
+use Prim.Native.Nat.{ℕ, _≤_, _<_}
 use mathlib.Core.Bool.{Bool, true, false}
 use mathlib.Core.List.{List, [], _∷_}
 use mathlib.Core.Logic.{⊎-elim, inl, inr}
 use mathlib.Core.Path.{_≡_, sym, subst}
 use native.Mathlib.Omega.{arith}
 use lib.ListN.{length, take}
+use Rattle.model.specs.Run.{output}
 use Rattle.pieces.specs.Line.{keptLimit}
+use Rattle.pieces.specs.Pieces.{together}
 use Rattle.frames.specs.Ran.{Store}
 use Rattle.frames.specs.Step.{endText}
 use Rattle.reader.specs.declared.Place.{Place}
+use Rattle.reader.specs.Reading.{lastLine}
+use Rattle.reader.specs.Status.{outcome}
+use Rattle.reader.proofs.Output.{prints-output, prints-status}
 use Rattle.reader.specs.Fold.{Prints, ends, piece-on, stops, goes, Through, atFirst, cameTo, endStatus}
 use Rattle.explain.specs.declared.input.Reading.{Reading}
 use Rattle.explain.specs.declared.input.Reading.the-variants.{Goes as Behind, Ends as Over}
@@ -75,3 +80,10 @@ prints-digit (goes q next n u room a r) = prints-digit r
 
 pub digit : {t : Store} {line : List ℕ} {status : ℕ} → CameTo t line status → status ≤ 3
 digit h = ⊎-elim (λ z. omega arith) (λ r. prints-digit (r .prints)) h
+
+-- What the contract of `read_all` says of a run without trouble: over the pieces that were read, what is printed is `output` of the bytes,
+-- and the status is their `outcome`. No input has as many bytes as there are line numbers.
+pub run-is : {t : Store} {line : List ℕ} {status : ℕ} (r : RunTo t line status) → length line ≡ keptLimit → length (together (r .pieces)) < lastLine →
+    (r .out ≡ output (together (r .pieces))) × (status ≡ outcome (together (r .pieces)))
+run-is {t} {line} r long few =
+    (prints-output t line (r .pieces) long few (r .prints), prints-status t line (r .pieces) long few (r .prints))

@@ -19,7 +19,7 @@ use Rattle.reader.specs.declared.Place.{Place}
 use Rattle.reader.specs.declared.Advance.{Advance}
 use Rattle.reader.specs.declared.Advance.the-variants.{Goes, Stops}
 use Rattle.reader.specs.Reading.{keptLine, AdvanceIs, withinLine}
-use Rattle.reader.proofs.Output.{placeIn, nextOf, countOf}
+use Rattle.reader.proofs.Left.{placeIn, nextOf, countOf}
 
 module _ (line room nws rws cws classes area : List ℕ) where
   -- a line that was taken: its tables hold the next state, and its text stands in the room
