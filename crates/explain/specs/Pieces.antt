@@ -1,6 +1,6 @@
 -- What the program makes of a piece of the input, and of all pieces: a chain of steps, each from where the last one left off. Status 3 is
 -- trouble in reading or writing: nothing says when a read or a write fails.
-use Prim.Native.Nat.{ℕ, _≤_}
+use Prim.Native.Nat.{ℕ, _≤_, _<_}
 use mathlib.Core.List.{List, []}
 use mathlib.Core.Logic.{_⊎_}
 use mathlib.Core.Path.{_≡_}
@@ -33,6 +33,7 @@ PieceTaken p t line piece (Over status) u kept = (status ≡ 3) ⊎ ((status ≡
 -- bytes were read, and they are the piece: so many, at the front of the buffer
 pub record SomeRead (p : Place) (t : Store) (line buffer : List ℕ) (r : Reading) (u : Store) (kept : List ℕ) : Type 0 where
   pub count : ℕ
+  pub some : 0 < count
   pub fits : count ≤ length buffer
   pub taken : PieceTaken p t line (take count buffer) r u kept
 
@@ -48,7 +49,7 @@ abbrev pub PieceRead : Place → Store → List ℕ → List ℕ → Reading →
 PieceRead p t line buffer r u kept = SomeRead p t line buffer r u kept ⊎ NoneRead p r
 
 -- There are pieces over which the run comes to a status. They are not named: C's `read` says how many bytes it puts into the buffer, and
--- not which.
+-- not which. So a run over no pieces fits as well, as over an empty input.
 pub record RunTo (t : Store) (line : List ℕ) (status : ℕ) : Type 0 where
   pub pieces : List (List ℕ)
   pub out : List ℕ

@@ -143,9 +143,7 @@ fn take_piece(
                 at = next;
                 from = to;
             }
-            Stepped::Ends(status) => {
-                return Reading::Ends(status);
-            }
+            Stepped::Ends(status) => return Reading::Ends(status),
         }
     }
     Reading::Goes(at)
@@ -192,10 +190,10 @@ fn read_piece(
         os::fail(&[b'i', b'n', b'p', b'u', b't']);
         return Reading::Ends(TROUBLE);
     }
-    if got == 0 {
+    let n = io::count(got, piece);
+    if n == 0 {
         return Reading::Ends(end(place, room));
     }
-    let n = io::count(got, piece);
     take_piece(
         place,
         &piece[..n],
@@ -242,12 +240,8 @@ pub fn read_all(
             room,
         );
         match reading {
-            Reading::Goes(next) => {
-                at = next;
-            }
-            Reading::Ends(status) => {
-                return status;
-            }
+            Reading::Goes(next) => at = next,
+            Reading::Ends(status) => return status,
         }
         turns -= 1;
     }

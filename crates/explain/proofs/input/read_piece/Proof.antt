@@ -1,6 +1,7 @@
 -- `explain::input::read_piece` meets its contract: a piece is what was read, and where nothing was read the run is over.
 use mathlib.Core.Logic.{inl, inr}
 use mathlib.Core.Path.{refl}
+use native.Mathlib.Omega.{arith}
 use borrow.Author.Needs.{needs}
 use Rattle.explain.proofs.input.read_piece.Statement.{statement}
 use Rattle.explain.proofs.input.read_piece.Tie as tie
@@ -20,6 +21,9 @@ same-length c = search needs
 returns : tie.Need-returns
 returns c = inr (inl refl)
 
+count-requires : tie.Need-count-requires
+count-requires c κs = search needs
+
 end-requires : tie.Need-end-requires
 end-requires c κs = search needs
 
@@ -31,9 +35,6 @@ same-length-3 c = search needs
 
 returns-2 : tie.Need-returns-2
 returns-2 c = inr (c .before .before .end .ensures)
-
-count-requires : tie.Need-count-requires
-count-requires c κs = search needs
 
 slice-reshare-prefix-take-piece : tie.Need-slice-reshare-prefix-take-piece
 slice-reshare-prefix-take-piece c = search needs
@@ -74,8 +75,9 @@ same-length-12 c = search needs
 returns-3 : tie.Need-returns-3
 returns-3 c =
     let t = c .before .before .before .before .before .before .before .before .before .before .before .before .before .before .before .before in
-    let n = t .before .before .before .before .before .before .before .before .before .before in
-    inl (record { count = n .count .result; fits = n .count .ensures .0 .0; taken = t .take-piece .ensures })
+    let e = t .before .before .before .before .before .before .before .before .before .before in
+    let n = e .before .count in
+    inl (record { count = n .result; some = omega (arith, e .if2 .left); fits = n .ensures .0 .0; taken = t .take-piece .ensures })
 
 pub read-piece-spec : {M : Type 1} → statement M
 read-piece-spec =
@@ -86,11 +88,11 @@ read-piece-spec =
     fail-requires
     same-length
     returns
+    count-requires
     end-requires
     same-length-2
     same-length-3
     returns-2
-    count-requires
     slice-reshare-prefix-take-piece
     slice-aggregate-take-piece
     take-piece-requires
