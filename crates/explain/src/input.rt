@@ -108,7 +108,7 @@ fn step(
 
 // Reads a piece to its end, or until the run is over.
 fn take_piece(
-    place: Place,
+    mut place: Place,
     piece: &[u8],
     line: &mut [u8],
     bytes: &mut [u8],
@@ -122,11 +122,10 @@ fn take_piece(
     requires { ⌜ Ready place (stored (now nodes) (now rules) (now conns) (now classes) (now area)) × Rooms (now line) (now bytes) (now nodes) (now rules) (now conns) (now classes) (now area) (now room) ⌝ }
     ensures { λ r. ⌜ PieceTaken place (stored (now (nodes .entry)) (now (rules .entry)) (now (conns .entry)) (now (classes .entry)) (now (area .entry))) (now (line .entry)) (now (piece .entry)) r (stored (now (nodes .exit)) (now (rules .exit)) (now (conns .exit)) (now (classes .exit)) (now (area .exit))) (now (line .exit)) ⌝ }
 {
-    let mut at = place;
     let mut from = 0;
     while from < piece.len() {
-        let stepped = step(
-            at,
+        match step(
+            place,
             piece,
             from,
             line,
@@ -137,16 +136,15 @@ fn take_piece(
             classes,
             area,
             room,
-        );
-        match stepped {
+        ) {
             Stepped::Goes(next, to) => {
-                at = next;
+                place = next;
                 from = to;
             }
             Stepped::Ends(status) => return Reading::Ends(status),
         }
     }
-    Reading::Goes(at)
+    Reading::Goes(place)
 }
 
 // The end of the input: what is printed then, and what the run came to.

@@ -12,12 +12,12 @@ use Rattle.explain.proofs.input.take_piece.Statement.{statement}
 use Rattle.explain.proofs.input.take_piece.Tie as tie
 
 abbrev Inv-loop : tie.InvT-loop
-Inv-loop piece line₀ bytes₀ nodes₀ rules₀ conns₀ classes₀ area₀ room₀ at₀ from₀ line bytes nodes rules conns classes area room at from =
-    Through piece at₀ (stored nodes₀ rules₀ conns₀ classes₀ area₀) line₀ 0 at (stored nodes rules conns classes area) line from × (from ≤ length piece)
+Inv-loop place₀ piece line₀ bytes₀ nodes₀ rules₀ conns₀ classes₀ area₀ room₀ from₀ place line bytes nodes rules conns classes area room from =
+    Through piece place₀ (stored nodes₀ rules₀ conns₀ classes₀ area₀) line₀ 0 place (stored nodes rules conns classes area) line from × (from ≤ length piece)
     × Alike line₀ bytes₀ nodes₀ rules₀ conns₀ classes₀ area₀ room₀ line bytes nodes rules conns classes area room
 
 abbrev μ-loop : tie.MeasureT-loop
-μ-loop piece line₀ bytes₀ nodes₀ rules₀ conns₀ classes₀ area₀ room₀ at₀ from₀ line bytes nodes rules conns classes area room at from =
+μ-loop place₀ piece line₀ bytes₀ nodes₀ rules₀ conns₀ classes₀ area₀ room₀ from₀ place line bytes nodes rules conns classes area room from =
     length piece - from
 
 -- all is as long behind a step as before it
@@ -48,8 +48,8 @@ step-requires c κs =
     let p = c .before .before .before .before .before .before .before .before .before .before .before .before .before .before .before .before .before .before .before .pre in
     ((through-ready (i .0) (p .0) (p .1 .line) .0, rooms-again (p .1) (i .2)), i .1)
 
-enum-known-stepped : tie.Need-enum-known-stepped Inv-loop μ-loop
-enum-known-stepped c = search needs
+enum-known-next : tie.Need-enum-known-next Inv-loop μ-loop
+enum-known-next c = search needs
 
 loop-less : tie.Need-loop-less Inv-loop μ-loop
 loop-less c =
@@ -63,7 +63,7 @@ loop-less c =
       arith,
       more,
       chain-farther (i .0) (s .pre .0) (s .pre .1 .line) (l .1 .1 .1 .0) (stored (l .1 .1 .1 .1 .1 .0) (l .1 .1 .1 .1 .1 .1 .0) (l .1 .1 .1 .1 .1 .1 .1 .0) (l .1 .1 .1 .1 .1 .1 .1 .1 .0) (l .1 .1 .1 .1 .1 .1 .1 .1 .1 .0)) (l .1 .1 .1 .1 .1 .1 .1 .1 .1 .1 .0)
-          (t .step .result) (t .step .ensures .0) _ _ (c .before .stepped .given .1) more,
+          (t .step .result) (t .step .ensures .0) _ _ (c .before .next .given .1) more,
     )
 
 loop-again : tie.Need-loop-again Inv-loop μ-loop
@@ -73,7 +73,7 @@ loop-again c =
     let s = m .before .before .before .before .before .before .before .before .before .before in
     let i = m .loop .inv in
     let l = t .step .last in
-    let e = c .before .stepped .given .1 in (
+    let e = c .before .next .given .1 in (
       chain-on (i .0) (s .pre .0) (s .pre .1 .line) (l .1 .1 .1 .0) (stored (l .1 .1 .1 .1 .1 .0) (l .1 .1 .1 .1 .1 .1 .0) (l .1 .1 .1 .1 .1 .1 .1 .0) (l .1 .1 .1 .1 .1 .1 .1 .1 .0) (l .1 .1 .1 .1 .1 .1 .1 .1 .1 .0)) (l .1 .1 .1 .1 .1 .1 .1 .1 .1 .1 .0)
           (t .step .result) (t .step .ensures .0) _ _ e (t .step .ensures .1),
       chain-within (i .0) (s .pre .0) (s .pre .1 .line) (l .1 .1 .1 .0) (stored (l .1 .1 .1 .1 .1 .0) (l .1 .1 .1 .1 .1 .1 .0) (l .1 .1 .1 .1 .1 .1 .1 .0) (l .1 .1 .1 .1 .1 .1 .1 .1 .0) (l .1 .1 .1 .1 .1 .1 .1 .1 .1 .0)) (l .1 .1 .1 .1 .1 .1 .1 .1 .1 .1 .0)
@@ -81,8 +81,8 @@ loop-again c =
       alike-on (i .2) (step-alike (c .before .before .before)),
     )
 
-enum-known-stepped-2 : tie.Need-enum-known-stepped-2 Inv-loop μ-loop
-enum-known-stepped-2 c = search needs
+enum-known-status : tie.Need-enum-known-status Inv-loop μ-loop
+enum-known-status c = search needs
 
 same-length : tie.Need-same-length Inv-loop μ-loop
 same-length c = alike-on (c .before .before .before .before .before .before .before .before .before .before .before .before .before .before .before .before .before .before .before .before .before .before .before .before .before .before .before .before .before .loop .inv .2) (step-alike (c .before .before .before)) .as-line
@@ -116,7 +116,7 @@ returns c =
     let i = m .loop .inv in
     let l = t .step .last in
     chain-end (i .0) (s .pre .0) (s .pre .1 .line) (l .1 .1 .1 .0) (stored (l .1 .1 .1 .1 .1 .0) (l .1 .1 .1 .1 .1 .1 .0) (l .1 .1 .1 .1 .1 .1 .1 .0) (l .1 .1 .1 .1 .1 .1 .1 .1 .0) (l .1 .1 .1 .1 .1 .1 .1 .1 .1 .0)) (l .1 .1 .1 .1 .1 .1 .1 .1 .1 .1 .0)
-    (t .step .result) (t .step .ensures .0) _ (c .before .stepped2 .given .1) (t .step .ensures .1)
+    (t .step .result) (t .step .ensures .0) _ (c .before .status .given .1) (t .step .ensures .1)
 
 same-length-9 : tie.Need-same-length-9 Inv-loop μ-loop
 same-length-9 c = c .before .loop .inv .2 .as-line
@@ -153,10 +153,10 @@ take-piece-spec =
     μ-loop
     loop-holds
     step-requires
-    enum-known-stepped
+    enum-known-next
     loop-less
     loop-again
-    enum-known-stepped-2
+    enum-known-status
     same-length
     same-length-2
     same-length-3
