@@ -34,24 +34,30 @@ def toolchain():
     return os.path.join(home, 'on', platform.machine(), 'toolchain')
 
 
+def put(made, *command):
+    """What a command writes behind -o, put in place at once: another test may be using what stood there."""
+    new = f'{made}.{os.getpid()}'
+    run(*command, '-o', new)
+    os.replace(new, made)
+    return made
+
+
 def compile_c(source, *words):
     """The path of the object that the toolchain's compiler makes of a C file. Warnings are errors."""
     out = os.path.join(TOP, 'target', 'tests')
     os.makedirs(out, exist_ok=True)
     made = os.path.join(out, os.path.splitext(os.path.basename(source))[0] + '.o')
-    run(os.path.join(toolchain(), 'bin', 'clang'), '--target=x86_64-unknown-linux-gnu', '-O2', '-Wall', '-Wextra', '-Werror', *words,
-        '-Itests/headers', '-c', source, '-o', made)
-    return made
+    return put(made, os.path.join(toolchain(), 'bin', 'clang'), '--target=x86_64-unknown-linux-gnu', '-O2', '-Wall', '-Wextra', '-Werror', *words,
+               '-Itests/headers', '-c', source)
 
 
 def link(made):
     """The path of the program that an object and the library are linked to, with the toolchain's C library."""
     tools, program = toolchain(), os.path.splitext(made)[0]
     lib = os.path.join(tools, 'lib')
-    run(os.path.join(tools, 'bin', 'ld.lld'), '-pie', '-dynamic-linker', f'{lib}/ld-linux-x86-64.so.2', f'{lib}/Scrt1.o', f'{lib}/crti.o',
-        f'{lib}/crtbeginS.o', made, 'target/staticlib/libexplanation.a', f'{lib}/libc.so.6', f'{lib}/libc_nonshared.a', f'{lib}/libgcc.a',
-        f'{lib}/crtendS.o', f'{lib}/crtn.o', '-o', program)
-    return program
+    return put(program, os.path.join(tools, 'bin', 'ld.lld'), '-pie', '-dynamic-linker', f'{lib}/ld-linux-x86-64.so.2', f'{lib}/Scrt1.o',
+               f'{lib}/crti.o', f'{lib}/crtbeginS.o', made, 'target/staticlib/libexplanation.a', f'{lib}/libc.so.6', f'{lib}/libc_nonshared.a',
+               f'{lib}/libgcc.a', f'{lib}/crtendS.o', f'{lib}/crtn.o')
 
 
 def build():
