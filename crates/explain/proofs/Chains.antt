@@ -1,10 +1,9 @@
 -- Chains of steps: the tables are ready behind one, what is printed behind one is printed from its start, and a step of the program makes one
 -- longer or ends it.
 use Prim.Native.Nat.{ℕ, _≤_, _<_}
-use mathlib.Core.List.{List, [], _∷_}
+use mathlib.Core.List.{List}
 use mathlib.Core.Logic.{_⊎_, ⊎-elim, inl, inr}
-use mathlib.Core.Path.{_≡_, refl, sym, subst}
-use native.Mathlib.Omega.{arith}
+use mathlib.Core.Path.{_≡_, sym, subst}
 use lib.ListN.{length}
 use Rattle.pieces.specs.Line.{keptLimit}
 use Rattle.frames.specs.Ran.{Store}

@@ -9,7 +9,7 @@ use Rattle.model.specs.Run.{start}
 use Rattle.pieces.specs.declared.Gathered.{Gathered}
 use Rattle.pieces.specs.Line.{keptLimit, gathered}
 use Rattle.laws.specs.Area.{splice}
-use Rattle.frames.specs.State.{Lent, textRoom}
+use Rattle.frames.specs.State.{textRoom}
 use Rattle.frames.specs.Step.{endText}
 use Rattle.frames.specs.Ran.{Store}
 use Rattle.frames.proofs.Runs.{at-start}
@@ -20,7 +20,7 @@ use Rattle.reader.specs.Fold.{ReadsOn, atFirst}
 use Rattle.reader.proofs.Going.{goes-next, goes-held, goes-running, stops-within, kept-held, kept-within, kept-on}
 use Rattle.explain.specs.declared.input.Stepped.{Stepped}
 use Rattle.explain.specs.declared.input.Stepped.the-variants.{Goes as Next, Ends}
-use Rattle.explain.specs.Reading.{Ready, Rooms, Fits, Shown, Went, Halted, Step}
+use Rattle.explain.specs.Reading.{Ready, Rooms, Fits, Shown, Step}
 
 -- an answer that is written, or not
 pub shown-on : {a : Advance} {q : Place} {to n : ℕ} → a ≡ Goes q to n → Shown a (Next q to)

@@ -19,7 +19,7 @@ use Rattle.reader.specs.Fold.{Prints, ends, piece-on, stops, goes, Through, atF
 use Rattle.explain.specs.declared.input.Reading.{Reading}
 use Rattle.explain.specs.declared.input.Reading.the-variants.{Goes as Behind, Ends as Over}
 use Rattle.explain.specs.Reading.{Ready}
-use Rattle.explain.specs.Pieces.{StoppedIn, PieceTaken, SomeRead, Ended, NoneRead, PieceRead, RunTo, CameTo}
+use Rattle.explain.specs.Pieces.{StoppedIn, PieceTaken, Ended, PieceRead, RunTo, CameTo}
 use Rattle.explain.proofs.Chains.{through-ready, through-prints, stopped-prints}
 
 -- The last piece is read to its end, and whatever is printed behind it belongs to a run from the start.

@@ -1,6 +1,6 @@
 -- THE PROGRAM PRINTS THE OUTPUT OF ITS INPUT: whatever meets the contracts of `read_on` and of the end, called again and again over the
 -- pieces that the input comes in, prints exactly `output` of the input and comes to its `outcome`.
-use Prim.Native.Nat.{ℕ, suc, _+_, _-_, _≤_, _<_, min}
+use Prim.Native.Nat.{ℕ, suc, _+_, _-_, _≤_, _<_}
 use mathlib.Core.Bool.{Bool, true, false, _||_, true≢false}
 use mathlib.Core.List.{List, [], _∷_, _++_}
 use mathlib.Core.Path.{_≡_, refl, sym, ap, ap₂, subst, _∙_}
@@ -8,9 +8,9 @@ use native.Mathlib.Omega.{arith}
 use lib.ListN.{length, take, drop, length-append}
 use lib.Seq.{length-take-le}
 use Rattle.model.specs.Frame.{lineBytes}
-use Rattle.model.specs.Run.{State, start, Turn, lineTurn, atEnd, run, output, InputLines}
+use Rattle.model.specs.Run.{State, start, lineTurn, atEnd, run, output, InputLines}
 use Rattle.pieces.specs.declared.Gathered.{Gathered}
-use Rattle.pieces.specs.Line.{keptLimit, upToFeed, hasFeed, lineEnd, gathered}
+use Rattle.pieces.specs.Line.{keptLimit, upToFeed, lineEnd, gathered}
 use Rattle.pieces.specs.Pieces.{linesThen, feed, feedAll, together}
 use Rattle.pieces.proofs.Pieces.{any-split}
 use Rattle.frames.specs.declared.Counts.{Counts}
@@ -20,7 +20,7 @@ use Rattle.frames.proofs.Runs.{Holds, at-start, end-is, stopped, gone}
 use Rattle.reader.specs.declared.Place.{Place}
 use Rattle.reader.specs.declared.Advance.{Advance}
 use Rattle.reader.specs.declared.Advance.the-variants.{Goes, Stops}
-use Rattle.reader.specs.Reading.{lastLine, keptLine, nextLine, withinLine, saysNo, AdvanceIs}
+use Rattle.reader.specs.Reading.{lastLine, keptLine, withinLine, saysNo, AdvanceIs}
 use Rattle.reader.specs.Fold.{Prints, ends, piece-on, stops, goes, atFirst, cameTo, endStatus}
 use Rattle.reader.specs.Status.{status, outcome}
 use Rattle.reader.proofs.Left.{left, no-more, feed-here, Few, within, still, left-line, left-open, placeIn, nextOf, countOf}

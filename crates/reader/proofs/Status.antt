@@ -3,7 +3,6 @@ use Prim.Native.Nat.{ℕ, suc}
 use mathlib.Core.Bool.{Bool, false, _||_}
 use mathlib.Core.List.{List, [], _∷_, map}
 use mathlib.Core.Path.{_≡_, refl, ap, _∙_}
-use lib.ListN.{take}
 use Rattle.model.specs.Frame.{lineBytes}
 use Rattle.model.specs.Run.{State, start, Turn, go, stop, lineTurn, atEnd, split, InputLines}
 use Rattle.hex.proofs.Lines.{cut-line}

@@ -1,3 +1,4 @@
 pub mod Reading
 pub mod Fold
 pub mod Status
+pub mod Outcomes

@@ -4,7 +4,7 @@ use Prim.Native.Nat.{ℕ, suc}
 use mathlib.Core.Bool.{Bool, false, _||_}
 use mathlib.Core.List.{List, [], _∷_}
 use Rattle.model.specs.Frame.{lineBytes}
-use Rattle.model.specs.Run.{State, start, Turn, go, stop, lineTurn, atEnd, split}
+use Rattle.model.specs.Run.{State, start, go, stop, lineTurn, atEnd, split}
 use Rattle.reader.specs.Reading.{beginsWithR}
 use Rattle.reader.specs.Fold.{cameTo}
 
