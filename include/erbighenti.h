@@ -15,6 +15,14 @@
 extern "C" {
 #endif
 
+/* Document 01's limits: nodes, rules, the distance of a query, the terms of a checked proof, the words of any proof. A caller who lends
+   an area of ERBIGHENTI_WORDS has never lent one that is too small. */
+#define ERBIGHENTI_NODES 2048
+#define ERBIGHENTI_RULES 256
+#define ERBIGHENTI_DISTANCE 16383
+#define ERBIGHENTI_TERMS 16384
+#define ERBIGHENTI_WORDS 1048576
+
 /* The strict checker over tables handed in whole. Returns document 01's number, 0 for an accepted proof.
    Behind `value` stands the count of terms, or where it is refused the term's place from 0. */
 uint16_t erbighenti_check(const uint16_t *nodes, size_t nodes_len, const uint16_t *rules, size_t rules_len,

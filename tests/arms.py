@@ -7,7 +7,7 @@ from listed import ABOVE, COUNTS, INSIDE, REFUSED, UNLISTED, difference
 from reference import (Fields, Refused, Run, connection_words, line_bytes, node_frame, node_words, rule_words, side_frame, term_text,
                        term_words)
 from rust import ask_many, build as build_oracle
-from scope import AREA, DISTANCE as FAR
+from scope import AREA, DISTANCE as FAR, TERMS
 from stored import offered_line, query_line, table_lines
 
 RUBBISH = 0xdead
@@ -91,6 +91,9 @@ class Library(Arm):
             yield f'verdict {k}', case(CHECK, *tables, words), (number, value)
             if k == 0 and len(words) % 5 == 1:
                 yield f'verdict {k}, cut inside a node', case(CHECK, *tables, words[:-1]), (13, 0)
+            # no run has so many terms as 19 asks for: now and then an accepted proof is offered again and again, as one
+            if k == 0 and number == 0 and zlib.crc32(run.data) % 64 == 0:
+                yield 'long proof, one again and again', case(CHECK, *tables, words * (TERMS // value + 1)), (19, 0)
         if run.stopped and run.stopped[0] <= 7 and not run.asked and not run.offered:
             yield from self.refused_entry(run, tables)
 

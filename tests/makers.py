@@ -1,6 +1,7 @@
 """Random tables for the oracle's list and for comparisons: nodes, rules, and connections in scrambled ages."""
 import proofs, tables
 from reference import Forest, Refused, is_instance
+from scope import DISTANCE
 
 
 # Tables. Each maker gives (nodes, rules, wanted connections); those that document 01 refuses are left out.
@@ -174,8 +175,9 @@ def large(rng):
     r, shape = rng.randrange, rng.randrange(9)
     wide = r(1, 9)
     nodes, links, left, right = (
-        # leaves under so many children: distance (leaves - 1) * children, around 4,095
-        tables.chain(min(4095 // wide + r(3), 2046), wide) if shape < 2 else tables.tower(r(4, 15)) if shape == 2 else
+        # leaves under so many children: distance (leaves - 1) * children, and three times as much, on both sides of the limit
+        tables.chain(r(2, 2047), wide) if shape == 0 else
+        tables.runs_under(r(2, 6), min(DISTANCE // 3 // wide + 1, 2030), wide) if shape == 1 else tables.tower(r(4, 15)) if shape == 2 else
         tables.nested(r(20, 300)) if shape == 3 else tables.leaning(r(1, 300), r(1, 400)) if shape == 4 else
         tables.changed_leaf(r(8, 14)) if shape == 5 else tables.changed_root(r(8, 13), r(7)) if shape == 6 else
         tables.among_large(r(6, 11)) if shape == 7 else tables.many_small(r(100, 140)))

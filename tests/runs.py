@@ -1,9 +1,9 @@
 """Whole runs of the program, as named rows: what is read and what must be printed. An output is written by hand where it is short, or
 by a rule that says what each line is; the few others, None here, are made by tests/reference.py. `rows` has them all in bytes."""
 from reference import output
-from scope import AREA, DIGITS, NODES, R7, R9, R10, RULES, TERMS, many
+from scope import AREA, DIGITS, NODES, R7, R9, R10, RULES, many
 from stored import connection_line, deep_lines, node_line, offered_line, query_line, rule_line, table_lines
-from tables import by_rule, chain, changed_leaf, congruent, deepest, leaning, nested, scrambled, tied, tower
+from tables import by_rule, chain, changed_leaf, congruent, deepest, leaning, nested, rising, runs_under, scrambled, tied, tower
 
 # nodes of a line of an offered proof, at most
 A_LINE = (DIGITS // 2 - 1) // 6
@@ -108,8 +108,10 @@ REFUSALS = [
     ('8 no table at all', ['0400000000'], ['refused 8 line 1']),
     ('8 before 0: equal numbers out of the table', [*TABLES, '0400040004'], ['refused 8 line 8']),
     ('9 not joined, and the run goes on', [*TABLES, '0400000002', '06'], ['refused 9 line 8', 'rejected 12 term 0']),
-    ('10 above 4,095 and 11, level 12', [*table_lines(tower(12)[0], [], tower(12)[1]), query_line(24, 25), '06'],
-     ['refused 10 line 40', 'rejected 12 term 0']),
+    ('10 and 11, level 14', [*table_lines(tower(14)[0], [], tower(14)[1]), query_line(28, 29), '06'],
+     ['refused 10 line 46', 'rejected 12 term 0']),
+    ('11 level 13', [*table_lines(tower(13)[0], [], tower(13)[1]), query_line(26, 27), '06'],
+     ['refused 11 line 43', 'rejected 12 term 0']),
     ('11 level 6, and the run goes on', [*table_lines(tower(6)[0], [], tower(6)[1]), query_line(12, 13), '06'],
      ['refused 11 line 22', 'rejected 12 term 0']),
     ('12 and a good proof behind it', [*RULE_LINES, '06', FIRST, SECOND, '06'], ['rejected 12 term 0', 'accepted 2']),
@@ -160,22 +162,22 @@ def to_and_fro(terms, above=()):
     return [*first, *(node for t in later for node in t)]
 
 
-def under_one(links, leaves=1365):
-    """Three unary runs over a chain of leaves, joined by rules, and so many rule connections in all: terms of two nodes, and with three
-    of these connections exactly as many as there may be."""
-    nodes = [(1 + i % 2, []) for i in range(leaves)] + [(3 + k // 2, [leaves - 1 if k % 2 else 0]) for k in range(6)]
-    nodes += [(6 + k, [0]) for k in range(links - 2)]
-    connections = [by_rule(i, i + 1) for i in range(leaves - 1)]
-    connections += [by_rule(k, k + 1) if (k - leaves) % 2 or k > leaves + 4 else congruent(k, k + 1) for k in range(leaves, len(nodes) - 1)]
-    return nodes, connections, leaves, len(nodes) - 1
-
-
-def under_one_text(leaves=1365):
-    """what a query over three of these connections prints"""
-    lines = ['distance 4095', '(o3 o1)']
-    for root in (3, 4, 5):
+def told(steps):
+    """what a query over three runs under one child, joined by rules, prints: so many steps of two nodes"""
+    leaves = (steps - 3) // 3 + 1
+    lines = [f'distance {steps}', '(o4 o1)']
+    for root in (4, 5, 6):
         lines += [f'(o{root} (Rewrite=> r7 o{1 + leaf % 2}))' for leaf in range(1, leaves)]
         lines.append(f'(Rewrite=> r7 (o{root + 1} o1))')
+    return lines
+
+
+def told_rising(leaves):
+    """what a query over such a chain prints, at first alone and then under o3 and o4"""
+    along = [f'(Rewrite=> r7 o{1 + leaf % 2})' for leaf in range(1, leaves)]
+    lines = [f'distance {3 * (leaves - 1) + 2}', 'o1', *along]
+    for root in (3, 4):
+        lines += [f'(Rewrite=> r7 (o{root} o1))', *(f'(o{root} {step})' for step in along)]
     return lines
 
 
@@ -186,11 +188,12 @@ def asked(tables):
 
 FULL, TOP = AREA // 4, (3, 1, 0, 0)
 LARGE = [
-    ('4,096 terms', [*RULE_LINES, *offered(to_and_fro(TERMS)), '06'], [f'accepted {TERMS}']),
-    ('19 for 4,097 terms', [*RULE_LINES, *offered(to_and_fro(TERMS + 1)), '06'], ['rejected 19 term 0']),
-    ('13 before 19, a cut term behind 4,097', [*RULE_LINES, *offered(to_and_fro(TERMS + 1) + [TOP]), '06'], ['rejected 13 term 0']),
-    ('19 before 14', [*RULE_LINES, *offered([FORTH] * (TERMS + 1)), '06'], ['rejected 19 term 0']),
-    ('32,768 words in 4,096 terms', [*RULE_LINES, *offered(to_and_fro(TERMS, [TOP])), '06'], [f'accepted {TERMS}']),
+    # as many terms as the area holds are fewer than there may be, so that no offered proof meets 19 here (tests/test_checker has it)
+    ('32,768 words in 8,192 terms', [*RULE_LINES, *offered(to_and_fro(FULL)), '06'], [f'accepted {FULL}']),
+    ('a bundle of 6,200 steps', [*RULE_LINES, *offered(to_and_fro(6201)), '06'], ['accepted 6201']),
+    ('13 a cut term behind 8,191', [*RULE_LINES, *offered(to_and_fro(FULL - 1) + [TOP]), '06'], ['rejected 13 term 0']),
+    ('14 the first of 8,192', [*RULE_LINES, *offered([FORTH] * FULL), '06'], ['rejected 14 term 0']),
+    ('32,768 words in 4,096 terms', [*RULE_LINES, *offered(to_and_fro(FULL // 2, [TOP])), '06'], [f'accepted {FULL // 2}']),
     ('32,768 words in one term', [*offered([TOP] * (FULL - 1) + [O1]), '06'], ['accepted 1']),
     ('32,768 words, a node a line', [*offered([TOP] * (FULL - 1) + [O1], 1), '06'], ['accepted 1']),
     ('32,768 words, two proofs of them', [*offered([TOP] * (FULL - 1) + [O1]), '06'] * 2, ['accepted 1', 'accepted 1']),
@@ -202,13 +205,16 @@ LARGE = [
     ('a term deeper than a stack is tall', deep_lines(FULL - 1), ['accepted 1']),
     ('a chain of all nodes', asked(scrambled(NODES)), ['distance 2047', 'o1', *['(Rewrite=> r7 o1)'] * (NODES - 1)]),
     ('11 a chain under three children', asked(chain(1366, 3)), ['refused 11 line 2735']),
-    ('10 a chain under four children', asked(chain(1025, 4)), ['refused 10 line 2053']),
+    ('11 a chain under four children', asked(chain(1025, 4)), ['refused 11 line 2053']),
+    ('11 as far as there may be', asked(runs_under(3)), ['refused 11 line 2745']),
+    ('10 and 11 a step past the limit', asked(runs_under(4)), ['refused 10 line 2747']),
     ('10 congruences of eight pairs', asked(deepest()), ['refused 10 line 4096']),
     ('11 a tower of 1,023 levels, distance 0', asked(tower(1023, False)), ['refused 11 line 3073']),
     ('11 nested congruences with one right node', asked(leaning(600, 800)), ['refused 11 line 3408']),
     ('level 5', asked(tower(5)), None),
-    ('distance 4,095 in 32,768 words', asked(under_one(3)), under_one_text()),
-    ('10 and 11 a step more', asked(under_one(4)), ['refused 10 line 2745']),
+    ('distance 4,095 in 32,768 words', asked(runs_under(3, 1365, 1)), told(4095)),
+    ('11 a step more', asked(runs_under(4, 1365, 1)), ['refused 11 line 2745']),
+    ('distance 4,097 in fewer words', asked(rising(1366)), told_rising(1366)),
     ('nested congruences', asked(nested(200)), None),
     ('a leaf changed in a large term', asked(changed_leaf(11)), None),
     ('11 in a larger one', asked(changed_leaf(12)), ['refused 11 line 40']),

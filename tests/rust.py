@@ -1,5 +1,6 @@
 """The oracle (docs/ORACLE.md), built by rustc and asked: the Rust's answers to lines of hexadecimal."""
 import os, shutil, subprocess
+from scope import DISTANCE
 
 TOP = os.path.dirname(os.path.dirname(os.path.abspath(__file__)))
 
@@ -14,9 +15,9 @@ def build(folder):
     return out
 
 
-def ask(oracle, lines, *words):
-    """the output lines of one input"""
-    out = subprocess.run([oracle, *words], input='\n'.join(lines) + '\n', capture_output=True, text=True)
+def ask(oracle, lines, *words, far=DISTANCE):
+    """the output lines of one input; above the distance `far` no flat proof is asked for"""
+    out = subprocess.run([oracle, f'far={far}', *words], input='\n'.join(lines) + '\n', capture_output=True, text=True)
     if out.returncode == -6 and 'overflowed its stack' in out.stderr:
         return ['overflows its stack']
     if out.returncode:

@@ -1,7 +1,7 @@
 """Document 01's limits, and the rules that tests and benchmarks share. A rule is (number, left, right), a side a list of items: (0, variable) or (1, operator, count)."""
 
 NODES, RULES, CHILDREN, ITEMS, VARIABLES = 2048, 256, 8, 64, 16
-DISTANCE, TERMS, WORDS = 4095, 4096, 1048576
+DISTANCE, TERMS, WORDS = 16383, 16384, 1048576
 DIGITS, AREA = 8192, 32768                                           # a line's digits, and the program's area in words
 
 R7 = (7, [(1, 1, 0)], [(1, 2, 0)])                                   # o1 becomes o2

@@ -1,6 +1,6 @@
 """The stored list of the oracle's answers (tests/vectors): document 01's lines of hexadecimal, written and read, and the list itself.
 A case is a line `# name`, input lines, and the oracle's output lines, each behind `> `. Cases stand apart by an empty line."""
-import os, re
+import hashlib, os, re
 
 HERE = os.path.join(os.path.dirname(os.path.abspath(__file__)), 'vectors')
 
@@ -128,6 +128,17 @@ def read(name):
         elif line and not line.startswith('##'):
             cases[-1][1].append(line)
     return cases
+
+
+def digest(terms):
+    """one line that stands for a proof that is too long to be stored"""
+    lines = [t + '\n' for t in terms]
+    return f'sha256 {hashlib.sha256("".join(lines).encode()).hexdigest()} of {len(lines)} terms'
+
+
+def whole(output):
+    """whether each query of these output lines has its terms there"""
+    return all(len(terms) == distance + 1 for distance, terms in answers(output))
 
 
 def answers(output):

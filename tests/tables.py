@@ -1,6 +1,7 @@
 """Tables for tests and benchmarks: nodes, connections, and the pair to ask for. A node is (operator, [children..]), a connection its five words."""
 import random
 from reference import distance
+from scope import R7
 
 
 def by_rule(a, b, rule=7, forward=1):
@@ -22,6 +23,15 @@ def tower(levels, joined=True):
     return nodes, links, 2 * levels, 2 * levels + 1
 
 
+def summed(more):
+    """Towers of levels 0 to 13 as children of two congruences, one inside the other: the distance of the upper one is the sum of all
+    levels, 2 ** 14 - 1, and one for each leaf more."""
+    nodes, links, _, _ = tower(13)
+    nodes += [(4, [2 * k + side for k in range(7)] + [side] * more) for side in (0, 1)]
+    nodes += [(5, [28 + side] + [2 * k + side for k in range(7, 14)]) for side in (0, 1)]
+    return nodes, links + [congruent(28, 29), congruent(30, 31)], 30, 31
+
+
 def chain(leaves, children, back=7):
     """leaves joined one after the other, under two nodes whose children are all the first and all the last; `back` is the rule from an
     odd leaf to the next"""
@@ -29,6 +39,50 @@ def chain(leaves, children, back=7):
     nodes += [(3, [0] * children), (3, [leaves - 1] * children)]
     links = [by_rule(i, i + 1, back if i % 2 else 7) for i in range(leaves - 1)] + [congruent(leaves, leaves + 1)]
     return nodes, links, leaves, leaves + 1
+
+
+def storeys(leaves, children, above):
+    """the two nodes over a chain of leaves, and two with so many of these as children: distance (leaves - 1) * children * above"""
+    nodes, links, left, right = chain(leaves, children)
+    return nodes + [(4, [left] * above), (4, [right] * above)], links + [congruent(leaves + 2, leaves + 3)], leaves + 2, leaves + 3
+
+
+def rising(leaves):
+    """A chain of leaves, a rule from its last to (o3 x) of its first, there the chain again, and so to (o4 x): distance
+    3 * (leaves - 1) + 2, of terms of one node and of two."""
+    nodes = [(1 + i % 2, []) for i in range(leaves)]
+    nodes += [(op, [end]) for op in (3, 4) for end in (0, leaves - 1)]
+    links = [by_rule(i, i + 1) for i in range(leaves)]
+    links += [congruent(leaves, leaves + 1), by_rule(leaves + 1, leaves + 2), congruent(leaves + 2, leaves + 3)]
+    return nodes, links, 0, leaves + 3
+
+
+def runs_under(links, leaves=1366, children=4, held=(), back=7, first=None):
+    """Three congruences of so many children over a chain of leaves, rule connections from each to the next, so many in all: distance
+    3 * (leaves - 1) * children + links. With three of them and these numbers the terms are as many as there may be, of five nodes.
+    `held` are nodes of a full tree that stand as children behind the others, `back` is the rule from an odd leaf to the next, `first` the
+    number of the first rule connection's rule, behind which those of the others come: where none is given, all are by rule 7."""
+    nodes = full(2) if held else []
+    leaf = len(nodes)
+    nodes += [(1 + i % 2, []) for i in range(leaves)]
+    top, ends = len(nodes), (leaf, leaf + leaves - 1)
+    nodes += [(4 + k // 2, [ends[k % 2]] * children + list(held)) for k in range(6)]
+    nodes += [(7 + k, [leaf] * children + list(held)) for k in range(links - 2)]
+    chained = [by_rule(leaf + i, leaf + i + 1, back if i % 2 else 7) for i in range(leaves - 1)]
+    above = [congruent(top + k, top + k + 1) for k in (0, 2, 4)]
+    above += [by_rule(k, k + 1, first + n if first else 7) for n, k in enumerate((top + min(2 * n + 1, n + 3)) for n in range(links))]
+    return nodes, chained + above, top, len(nodes) - 1
+
+
+# of a full tree's nodes 2, 1 and 0 have 11 nodes together: held in runs_under they make terms of 16
+HELD = (2, 1, 0)
+
+
+def between(variables):
+    """rules of which the connections of runs_under(3, held=.., back=8, first=9) are instances: a variable for each child that is held"""
+    ends = [[(1, 1 + end, 0)] * 4 + [(0, v) for v in variables] for end in (0, 1)]
+    across = [(9 + k, [(1, 4 + k, len(ends[1])), *ends[1]], [(1, 5 + k, len(ends[0])), *ends[0]]) for k in range(3)]
+    return [R7, (8, R7[2], R7[1]), *across]
 
 
 def star(n):

@@ -9,7 +9,7 @@ from runs import P_ROWS, REFUSALS, STEPS, rows, text, to_and_fro
 from scope import ITEMS, NODES, R7, R9, R10, R11, R12, RULES, TERMS, many
 from stored import parse, query_line, table_lines
 from tables import (among_large, by_rule, chain, changed_leaf, changed_root, comb, leaning, many_small, nested, random_table,
-                    scrambled, star, tied, tower)
+                    runs_under, scrambled, star, tied, tower)
 
 # how many inputs a list has, about
 STORED = 200
@@ -67,8 +67,8 @@ def packed(nodes, rules, connections, words=(), left=0, right=0, area=4096, room
 
 def library():
     """what the library's fuzzer begins with"""
-    tables = [tower(k) for k in (1, 2, 3, 5, 6, 9, 12)] + [tower(40, False), chain(5, 3), chain(1366, 3), chain(1025, 4), star(9), comb(7)]
-    tables += [scrambled(30), tied(), nested(3), nested(100), leaning(3, 4), leaning(60, 80), changed_leaf(3), changed_leaf(11)]
+    tables = [tower(k) for k in (1, 2, 3, 5, 6, 9, 12, 14)] + [tower(40, False), chain(5, 3), chain(1366, 3), chain(1025, 4), runs_under(3), runs_under(4)]
+    tables += [star(9), comb(7), scrambled(30), tied(), nested(3), nested(100), leaning(3, 4), leaning(60, 80), changed_leaf(3), changed_leaf(11)]
     tables += [changed_root(4, 3), among_large(3), many_small(6)]
     rules = [R7, R9, R10, R11, R12]
     for nodes, links, left, right in tables:

@@ -116,7 +116,7 @@ static struct answer check(const struct asked *t, const uint16_t *words, size_t 
     struct answer a = {.value = 77};
     a.number = erbighenti_check(TABLES(t), words, length, &a.value);
     hold(a.number == 0 || (a.number >= 2 && a.number <= 7) || (a.number >= 12 && a.number <= 19), "a number of the checker");
-    hold(a.number ? a.value < 4096 : a.value >= 1 && a.value <= 4096, "a place or a count of terms");
+    hold(a.number ? a.value < ERBIGHENTI_TERMS : a.value >= 1 && a.value <= ERBIGHENTI_TERMS, "a place or a count of terms");
     hold(a.number == 0 || (a.number >= 15 && a.number <= 18) == (a.value > 0), "a place of a later term just where one is refused");
     return a;
 }
@@ -126,7 +126,7 @@ static struct answer distance(const struct asked *t, uint16_t left, uint16_t rig
     struct answer a = {.value = 77};
     a.number = erbighenti_distance(TABLES(t), left, right, &a.value);
     hold(a.number == 0 || (a.number >= 2 && a.number <= 10), "a number of the distance");
-    hold(a.value <= 4095 && (a.number == 0 || a.value == 0), "a distance that may be, and none where it is refused");
+    hold(a.value <= ERBIGHENTI_DISTANCE && (a.number == 0 || a.value == 0), "a distance that may be, and none where it is refused");
     return a;
 }
 

@@ -10,8 +10,8 @@ long lent_write(int file, const uint8_t *bytes, size_t length);
 long rattle_arg_count(void);
 int rattle_errno(void);
 
-/* An answer has at most 28 bytes for each node of the area, a line feed for each term, and its first line. */
-enum { ANSWER = 32768 / 4 * 28 + 4096 + 14, TERMS = 4096, WHOLE = 1 << 30 };
+/* As many terms as the area has nodes; an answer has at most 28 bytes for each node, a line feed for each term, and its first line. */
+enum { TERMS = 32768 / 4, ANSWER = TERMS * 28 + TERMS + 15, WHOLE = 1 << 30 };
 
 /* the input, how much of it is read and printed at a time, and which call fails */
 static struct {

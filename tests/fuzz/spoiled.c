@@ -39,7 +39,7 @@ uint16_t spoiled_distance(const uint16_t *nodes, size_t nodes_len, const uint16_
     if (spoil == 7 && number == 9) /* nodes that are not joined have a distance */
         number = 0;
     if (spoil == 8 && number == 10) /* a refused distance is told */
-        *value = 4096;
+        *value = ERBIGHENTI_DISTANCE + 1;
     if (spoil == 9 && nodes_len > 0) /* what is lent to be read is written */
         ((volatile uint16_t *)nodes)[0] = nodes[0];
     return number;

@@ -7,8 +7,8 @@
 //! matches another of the same operator, whatever their child counts. With the word `alternate` a rule between two nodes that are
 //! joined already is handed to egg's `alternate_rewrite`, and with the word `thread` egg has a thread's usual stack of 2 MiB.
 //!
-//! Tables are believed: nothing is judged. A query prints `distance D` and each flat term on a line of its own (the distance alone
-//! where it is above 4,095, since the flat proof may then be too large to hold); an offered proof prints `passes`, `fails`
+//! Tables are believed: nothing is judged. A query prints `distance D` and each flat term on a line of its own (with a word `far=N`
+//! the distance alone where it is above N, since the flat proof may then be too large to hold); an offered proof prints `passes`, `fails`
 //! (a step is found to be none) or `panics: WHY`; a query on which egg panics prints `panics: WHY` too.
 //!
 //! An empty line begins another input: what was read is forgotten, and an empty line is printed. So many inputs take one process.
@@ -157,6 +157,12 @@ fn asked_for(word: &str) -> bool {
     std::env::args().any(|w| w == word)
 }
 
+/// The distance above which no flat proof is printed.
+fn far() -> Option<num_bigint::BigUint> {
+    let word = std::env::args().find_map(|w| w.strip_prefix("far=").map(String::from))?;
+    Some(num_bigint::BigUint::small(word.parse().expect("a number")))
+}
+
 fn forest_of(tables: &Tables) -> Explain<Node> {
     let (by_union, alternate) = (asked_for("union"), asked_for("alternate"));
     let mut forest = Explain::base();
@@ -186,7 +192,7 @@ fn answer(tables: &Tables, left: Id, right: Id) -> String {
         Err(why) => return format!("panics: {}\n", why),
     };
     let mut out = format!("distance {}\n", distance);
-    if distance > num_bigint::BigUint::small(4095) {
+    if far().is_some_and(|far| distance > far) {
         return out;
     }
     let text = |terms: &[FlatTerm<Node>]| {

@@ -13,9 +13,9 @@ pub const RULES: usize = 256;
 /// A rule has at most so many variables, numbered from 0.
 pub const VARIABLES: usize = 16;
 /// A distance is at most this.
-pub const DISTANCE: usize = 4095;
+pub const DISTANCE: usize = 16383;
 /// A checked proof has at most so many terms.
-pub const TERMS: usize = 4096;
+pub const TERMS: usize = 16384;
 /// A proof has at most so many words, so that no larger area is of use.
 pub const WORDS: usize = 1_048_576;
 

@@ -24,7 +24,7 @@ pub enum Refusal {
     NoSuchNode = 8,
     /// 9: no chain of connections joins the pair.
     NotJoined = 9,
-    /// 10: the distance is above 4,095.
+    /// 10: the distance is above 16,383.
     TooFar = 10,
     /// 11: the area or the room is too small, or over 1,048,576 words are needed.
     NoRoom = 11,
@@ -42,7 +42,7 @@ pub enum Refusal {
     NoStep = 17,
     /// 18: a mark inside a marked subterm.
     NestedMark = 18,
-    /// 19: over 1,048,576 words, or over 4,096 terms.
+    /// 19: over 1,048,576 words, or over 16,384 terms.
     TooLong = 19,
 }
 
@@ -94,7 +94,7 @@ impl Refusal {
             Unsupported => "congruence without support",
             NoSuchNode => "query number not in the node table",
             NotJoined => "no chain of connections joins the pair",
-            TooFar => "distance above 4,095",
+            TooFar => "distance above 16,383",
             NoRoom => "needed words exceed the area, or 1,048,576, or the bytes of a text its room",
             NoWords => "proof of no words",
             NoTerms => "words are no whole number of terms, count above 8, mark above 2, unmarked node with a rule",
@@ -103,7 +103,7 @@ impl Refusal {
             UnlistedRule => "a mark names an unlisted rule",
             NoStep => "a step fails: something changed away from its mark, or its rule does not make the change at it",
             NestedMark => "a mark inside a marked subterm",
-            TooLong => "over 1,048,576 words, or over 4,096 terms",
+            TooLong => "over 1,048,576 words, or over 16,384 terms",
         }
     }
 }

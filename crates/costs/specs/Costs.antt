@@ -1,5 +1,5 @@
 -- Distances by the costs that stand in the rows, held at a cap.
--- "Sums past 4,095 may be held at a cap; the decision is exact": the cap is the first number past the limit.
+-- Sums past the limit "may be held at a cap; the decision is exact": the cap is the first number past it.
 use Prim.Native.Nat.{ℕ, zero, suc, _*_, _+_, _/_, _≤_, _<_, min}
 use mathlib.Core.Path.{_≡_}
 use mathlib.Core.List.{List}

@@ -1,4 +1,4 @@
--- Demand 3 at the entry. For accepted tables, two of their nodes that connections join, a distance of at most 4,095 and an area that
+-- Demand 3 at the entry. For accepted tables, two of their nodes that connections join, a distance within the limit and an area that
 -- the proof's words fit: the query answers that distance and those words, and the area holds them and zeros; the proof starts at
 -- the left term, ends at the right, has distance + 1 terms and one mark in each but the first; and if each rule connection is an
 -- instance of its listed rule, the strict checker accepts it. Beside it: 8, 9, 10 and 11, each exactly where it is the first to hold.

@@ -1,9 +1,10 @@
 -- What no line of input shows, computed: limits at their last good number and their first bad one, lent areas and rooms, and reports.
 use Prim.Native.Nat.{ℕ, zero, suc, _+_, _*_}
-use mathlib.Core.Bool.{Bool, true, false}
+use mathlib.Core.Bool.{Bool, true, false, or-true}
 use mathlib.Core.List.{List, [], _∷_, _++_}
 use mathlib.Core.Option.{Option, none, some}
-use mathlib.Core.Path.{_≡_, refl}
+use mathlib.Core.Path.{_≡_, refl, ap}
+use lib.Dec.{ltb}
 use lib.ListN.{replicate, take}
 use Rattle.model.specs.declared.Answer.the-variants.{Written, Refused}
 use Rattle.model.specs.declared.Connection.{Connection}
@@ -19,7 +20,7 @@ use Rattle.model.specs.Pattern.{variable, operator, noPatterns, app}
 use Rattle.model.specs.Rule.{Rule, side, addRule}
 use Rattle.model.specs.Verdict.{verdict, reportOf}
 use Rattle.model.specs.Node.{Node, addNode}
-use Rattle.model.specs.Query.{Tables, noTables, measure, answer, areaAfter, measureReport, answerReport}
+use Rattle.model.specs.Query.{Tables, noTables, measure, answer, writtenIf, areaAfter, measureReport, answerReport}
 use Rattle.model.specs.Text.{bytes, termText, roomAfter, textReport}
 use Rattle.model.specs.Frame.{wordsKind, lineBytes}
 use Rattle.model.specs.Tables.{judgeTables, areaOf}
@@ -48,8 +49,8 @@ tower : ℕ → Tables
 unfolding towerNodes towerConns
 tower k = record { nodes = towerNodes k; rules = []; conns = towerConns k }
 
--- Two nodes over the left nodes of levels 5 to 11 and over the right ones, with two over levels 0 to 4 among their children:
--- the distance of the upper two is that of all the levels, 4,095.
+-- Two nodes over the left nodes of levels 7 to 13 and over the right ones, with two over levels 0 to 6 among their children:
+-- the distance of the upper two is that of all the levels, 16,383.
 abbrev levels : ℕ → ℕ → ℕ → List ℕ
 levels zero from side = []
 levels (suc n) from side = (2 * from + side) ∷ levels n (suc from) side
@@ -59,25 +60,42 @@ unfolding tower
 sums =
     record {
       nodes =
-          tower 11 .nodes
-          ++ (record { op = 4; kids = levels 5 0 0 } ∷ record { op = 4; kids = levels 5 0 1 }
-          ∷ record { op = 5; kids = 24 ∷ levels 7 5 0 } ∷ record { op = 5; kids = 25 ∷ levels 7 5 1 } ∷ []);
+          tower 13 .nodes
+          ++ (record { op = 4; kids = levels 7 0 0 } ∷ record { op = 4; kids = levels 7 0 1 }
+          ∷ record { op = 5; kids = 28 ∷ levels 7 7 0 } ∷ record { op = 5; kids = 29 ∷ levels 7 7 1 } ∷ []);
       rules = [];
-      conns = joining 26 Congruence ∷ joining 24 Congruence ∷ tower 11 .conns;
+      conns = joining 30 Congruence ∷ joining 28 Congruence ∷ tower 13 .conns;
     }
 
--- 10: a distance of 4,095 is told, one of 4,096 is refused for any area
-near : measure sums 26 27 ≡ Distance 4095
+-- 10: a distance of 16,383 is told, one of 16,384 is refused for any area
+near : measure sums 30 31 ≡ Distance 16383
 unfolding sums measure
 near = refl
 
-far : measure (tower 12) 24 25 ≡ Unmeasured 10
+far : measure (tower 14) 28 29 ≡ Unmeasured 10
 unfolding tower measure
 far = refl
 
-far-for-any-area : answer (tower 12) 1048576 24 25 ≡ Refused 10
+far-for-any-area : (area : ℕ) → answer (tower 14) area 28 29 ≡ Refused 10
 unfolding tower answer
-far-for-any-area = refl
+far-for-any-area area = refl
+
+-- 11: towers of levels 12 and 13 are near enough, and their words are past the limit for any area
+near-12 : measure (tower 12) 24 25 ≡ Distance 4096
+unfolding tower measure
+near-12 = refl
+
+near-13 : measure (tower 13) 26 27 ≡ Distance 8192
+unfolding tower measure
+near-13 = refl
+
+large-12 : (area : ℕ) → answer (tower 12) area 24 25 ≡ Refused 11
+unfolding tower answer
+large-12 area = ap (λ (b : Bool). writtenIf b 4096 134234108) (or-true (ltb area 134234108))
+
+large-13 : (area : ℕ) → answer (tower 13) area 26 27 ≡ Refused 11
+unfolding tower answer
+large-13 area = ap (λ (b : Bool). writtenIf b 8192 536903676) (or-true (ltb area 536903676))
 
 -- 11: an area that the words fill is enough, one word less is not
 fits : answer (tower 7) 131580 14 15 ≡ Written 128 131580
@@ -187,18 +205,22 @@ variable-too-high : isThere (side (variable 16 ∷ [])) ≡ false
 unfolding side
 variable-too-high = refl
 
--- 19 for terms: 4,096 are looked at (the second has no mark), 4,097 are not
+-- 19 for terms: 16,384 are looked at (the second has no mark), 16,385 are not; a term cut behind them is 13
 leaves : ℕ → List ℕ
 leaves zero = []
 leaves (suc n) = 1 ∷ 0 ∷ 0 ∷ 0 ∷ leaves n
 
-terms-enough : verdict [] (leaves 4096) ≡ Rejected 15 1
+terms-enough : verdict [] (leaves 16384) ≡ Rejected 15 1
 unfolding leaves verdict
 terms-enough = refl
 
-terms-too-many : verdict [] (leaves 4097) ≡ Rejected 19 0
+terms-too-many : verdict [] (leaves 16385) ≡ Rejected 19 0
 unfolding leaves verdict
 terms-too-many = refl
+
+terms-cut : verdict [] (leaves 16384 ++ (3 ∷ 1 ∷ 0 ∷ 0 ∷ [])) ≡ Rejected 13 0
+unfolding leaves verdict
+terms-cut = refl
 
 -- Tables handed in whole: nodes before rules (4, and 2 behind it), rules before connections (2, and 6 behind it).
 nodes-first : numberIn (judgeTables (1 ∷ 1 ∷ replicate 8 0) (0 ∷ []) []) ≡ 4

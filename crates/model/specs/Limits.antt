@@ -17,12 +17,12 @@ itemLimit = 64
 abbrev pub variableLimit : ℕ
 variableLimit = 16
 
--- 10: "distance above 4,095"; 19: "over 1,048,576 words, or over 4,096 terms", the first of which is also 11's
+-- 10: "distance above 16,383"; 19: "over 1,048,576 words, or over 16,384 terms", the first of which is also 11's
 abbrev pub distanceLimit : ℕ
-distanceLimit = 4095
+distanceLimit = 16383
 
 abbrev pub termLimit : ℕ
-termLimit = 4096
+termLimit = 16384
 
 abbrev pub wordLimit : ℕ
 wordLimit = 1048576

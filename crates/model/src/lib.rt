@@ -83,9 +83,9 @@ pub const ITEM_LIMIT: usize = 64;
 
 pub const VARIABLE_LIMIT: usize = 16;
 
-pub const DISTANCE_LIMIT: usize = 4095;
+pub const DISTANCE_LIMIT: usize = 16383;
 
-pub const TERM_LIMIT: usize = 4096;
+pub const TERM_LIMIT: usize = 16384;
 
 pub const WORD_LIMIT: usize = 1048576;
 

@@ -47,9 +47,14 @@ fn towers() {
         assert_eq!(query(made.tables(), old, new, &mut area), Err(Refusal::NoRoom));
         assert!(area.iter().all(|word| *word == 0), "a refused query leaves its area all zero");
     }
-    let (made, old, new) = tower(12);
+    let (made, old, new) = tower(14);
     assert_eq!(query(made.tables(), old, new, &mut []), Err(Refusal::TooFar));
     assert_eq!(made.explain(old, new), Err(Refusal::TooFar));
+    for levels in [12, 13] {
+        let (made, old, new) = tower(levels);
+        assert_eq!(distance(made.tables(), old, new), Ok(1 << levels));
+        assert_eq!(made.explain(old, new), Err(Refusal::NoRoom));
+    }
     let (made, old, new) = tower(9);
     assert_eq!(distance(made.tables(), old, new), Ok(512));
     assert_eq!(made.explain(old, new), Err(Refusal::NoRoom), "it needs more words than a proof may have");
@@ -57,12 +62,24 @@ fn towers() {
 
 #[test]
 fn chains() {
-    let (made, old, new) = chain(1366, 3);
-    let proof = made.explain(old, new).unwrap();
-    assert_eq!((proof.distance(), proof.words().len(), proof.terms().count()), (DISTANCE, 65536, TERMS));
-    assert_eq!(proof.check(made.tables()), Ok(TERMS));
-    let (made, old, new) = chain(1025, 4);
-    assert_eq!(distance(made.tables(), old, new), Err(Refusal::TooFar));
+    for (leaves, children, words) in [(1366, 3, 65536), (1025, 4, 81940), (1551, 4, 124_020), (2046, 8, 588_996)] {
+        let (made, old, new) = chain(leaves, children);
+        let proof = made.explain(old, new).unwrap();
+        let terms = (usize::from(leaves) - 1) * children + 1;
+        assert_eq!((proof.distance(), proof.words().len(), proof.terms().count()), (terms - 1, words, terms));
+        assert_eq!(proof.check(made.tables()), Ok(terms));
+    }
+}
+
+#[test]
+fn numbers_in_words() {
+    assert_eq!(TERMS, DISTANCE + 1, "what is written is never too long to be checked");
+    let grouped = |number: usize| match (number / 1_000_000, number / 1000 % 1000, number % 1000) {
+        (0, thousands, rest) => format!("{thousands},{rest:03}"),
+        (millions, thousands, rest) => format!("{millions},{thousands:03},{rest:03}"),
+    };
+    assert_eq!(Refusal::TooFar.words(), format!("distance above {}", grouped(DISTANCE)));
+    assert_eq!(Refusal::TooLong.words(), format!("over {} words, or over {} terms", grouped(WORDS), grouped(TERMS)));
 }
 
 #[test]

@@ -237,8 +237,8 @@ fn towers_are_eggs_up_to_the_limit() {
     let proof = made.tables().explain(number(left), number(right)).expect("a proof");
     assert_eq!((proof.distance(), proof.words().len()), (128, 131_580));
     assert_eq!(proof.text(), made.flat(left, right));
-    let (mut made, left, right) = tower(12);
-    assert_eq!(made.distance(left, right), "4096");
+    let (mut made, left, right) = tower(14);
+    assert_eq!(made.distance(left, right), "16384");
     assert_eq!(made.tables().explain(number(left), number(right)), Err(Refusal::TooFar));
 }
 
