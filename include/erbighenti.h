@@ -15,8 +15,8 @@
 extern "C" {
 #endif
 
-/* Document 01's limits: nodes, rules, the distance of a query, the terms of a checked proof, the words of any proof. A caller who lends
-   an area of ERBIGHENTI_WORDS has never lent one that is too small. */
+/* Document 01's limits: nodes, rules, the distance of a query, the terms of a checked proof, the words of any proof. In an
+   area of ERBIGHENTI_WORDS number 11 says that the proof is past this limit: no larger area would help. */
 #define ERBIGHENTI_NODES 2048
 #define ERBIGHENTI_RULES 256
 #define ERBIGHENTI_DISTANCE 16383

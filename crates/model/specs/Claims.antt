@@ -80,7 +80,8 @@ far-for-any-area : (area : ℕ) → answer (tower 14) area 28 29 ≡ Refused 10
 unfolding tower answer
 far-for-any-area area = refl
 
--- 11: towers of levels 12 and 13 are near enough, and their words are past the limit for any area
+-- 11: towers of levels 12 and 13 are near enough, and their words are past the limit for any area: 2 ^ k + 1 terms of 2 ^ (k + 1) - 1
+-- nodes, four words each
 near-12 : measure (tower 12) 24 25 ≡ Distance 4096
 unfolding tower measure
 near-12 = refl

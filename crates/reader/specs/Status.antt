@@ -1,5 +1,6 @@
 -- What the run comes to for any input, beside `run` and `output` (model/specs/Run.antt), which say what it prints: 2 where a refusal of the
--- input stops it, else 1 where some query was refused or some proof rejected, else 0.
+-- input stops it, else 1 where some query was refused or some proof rejected, else 0. Of all that a line prints behind which the run goes on
+-- only these two begin with r (proofs/Said.antt).
 use Prim.Native.Nat.{ℕ, suc}
 use mathlib.Core.Bool.{Bool, false, _||_}
 use mathlib.Core.List.{List, [], _∷_}
