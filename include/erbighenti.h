@@ -23,8 +23,9 @@ extern "C" {
 #define ERBIGHENTI_TERMS 16384
 #define ERBIGHENTI_WORDS 1048576
 
-/* The strict checker over tables handed in whole. Returns document 01's number, 0 for an accepted proof.
-   Behind `value` stands the count of terms, or where it is refused the term's place from 0. */
+/* The strict checker over tables handed in whole. Returns document 01's number (2 to 7, 12 to 17 or 19), 0 for an accepted proof.
+   Behind `value` stands the count of terms, or where it is refused the term's place from 0. Each term behind the first has exactly one
+   mark, so that an accepted proof has one step less than terms. */
 uint16_t erbighenti_check(const uint16_t *nodes, size_t nodes_len, const uint16_t *rules, size_t rules_len,
                           const uint16_t *connections, size_t connections_len, const uint16_t *words, size_t words_len,
                           uint64_t *value);

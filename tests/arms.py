@@ -3,7 +3,7 @@ the reference and gives, for each, nothing or the first difference: what it is a
 import os, tempfile, zlib
 import program, tree_checker
 from library import CHECK, DISTANCE, QUERY, build, call, case, text
-from listed import ABOVE, COUNTS, INSIDE, REFUSED, UNLISTED, difference
+from listed import LISTED, alike, difference
 from reference import (Fields, Refused, Run, connection_words, line_bytes, node_frame, node_words, rule_words, side_frame, term_text,
                        term_words)
 from rust import ask_many, build as build_oracle
@@ -189,10 +189,9 @@ class Rust(Arm):
     def offer_fault(rules, words, number, value):
         def fault(said):
             here = f'rejected {number} term {value}' if number else f'accepted {value}'
-            if number == 0 or said[0] == 'passes' and difference(rules, words, number, value) in (UNLISTED, ABOVE, COUNTS, INSIDE):
+            if number == 0 or said[0] == 'passes' and difference(rules, words, number, value) in LISTED:
                 return None if said[0] == 'passes' else here
-            causes = next(numbers for start, numbers in REFUSED if said[0].startswith(start))
-            return None if said[0] != 'passes' and number in causes else here
+            return None if said[0] != 'passes' and alike(rules, words, number, value, said[0]) else here
         return fault
 
     def compare_all(self, runs):

@@ -35,8 +35,8 @@ class Covered:
         return {int(said.split()[1]) for said in self.numbers if ' ' in said}
 
     def left(self):
-        """the numbers that no run was given; 19 none can be: the program's area holds fewer terms and words than there may be"""
-        return sorted(set(range(1, 19)) - self.refused())
+        """the numbers that no run was given; 19 none can be: the program's area holds fewer terms and words than there may be. 18 is nobody's"""
+        return sorted(set(range(1, 18)) - self.refused())
 
     def show(self):
         print('inputs:')

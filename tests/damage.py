@@ -43,8 +43,9 @@ def mark_inside(rng, terms):
 
 
 def another_mark(rng, terms):
+    """a node is marked, of any direction and by a rule that may not be listed"""
     k, at = one_node(rng, terms)
-    terms[k][at + 2:at + 4] = rng.choice((1, 2)), rng.choice([terms[j][i + 3] for j, i in marked(terms)] or [7])
+    terms[k][at + 2:at + 4] = rng.choice((1, 2)), rng.choice([terms[j][i + 3] for j, i in marked(terms)] + [7])
 
 
 def without_mark(rng, terms):

@@ -75,31 +75,29 @@ def honest(rng):
     return kind, lines + laid(rng, [term_words(t) for t in forest.flat_proof(left, right)]) + ['06']
 
 
-def offered(rng):
-    """rules, and the terms of a proof made by rewriting"""
+def offered(rng, made=proofs.proof):
+    """rules, and terms made by rewriting, mostly more than one"""
     found = proofs.rules(rng, rng.randrange(1, 5))
-    terms = proofs.proof(rng, found, rng.randrange(1, 6))
+    terms = made(rng, found, rng.randrange(1, 6))
     while len(terms) == 1 and rng.random() < 0.9:
-        terms = proofs.proof(rng, found, rng.randrange(1, 6))
+        terms = made(rng, found, rng.randrange(1, 6))
         found = found if len(terms) > 1 else proofs.rules(rng, rng.randrange(1, 5))
-        terms = terms if len(terms) > 1 else proofs.proof(rng, found, rng.randrange(1, 6))
+        terms = terms if len(terms) > 1 else made(rng, found, rng.randrange(1, 6))
     return proofs.table(found), terms
 
 
-def several(terms):
-    return any(sum(m > 0 for m in t[2::4]) > 1 for t in terms)
-
-
 def good(rng):
-    rules, terms = offered(rng)
-    kind = 'proof, parallel' if several(terms) else 'proof, one mark a step'
-    if several(terms) and rng.random() < 0.5:
-        kind, terms = 'proof, split', proofs.split(terms)
+    rules, terms = offered(rng, proofs.parallel)
+    kind = 'proof, one mark a step'
+    if proofs.several(terms):
+        # several marks in a term are 15, however right they are; the same rewriting step by step is accepted
+        kind, terms = ('proof, split', proofs.split(terms)) if rng.random() < 0.5 else ('proof, parallel', terms)
     return kind, [rule_line(r) for r in rules] + laid(rng, terms) + ['06']
 
 
 def damaged(rng):
-    rules, terms = offered(rng)
+    # of one mark a term, mostly: several are 15 before anything behind it is looked at
+    rules, terms = offered(rng, proofs.parallel if rng.random() < 0.1 else proofs.proof)
     name = rng.choice(list(damage.WORDS))
     damage.WORDS[name](rng, terms)
     lines = [rule_line(r) for r in rules] + laid(rng, terms) + ['06']

@@ -1,13 +1,15 @@
 """How the Rust's verdict on an offered proof and document 01's may differ: the rows of docs/DIFFERENCES.md."""
-from reference import answer, check, term_end
+from reference import answer, check, marked, term_end
 
 # what docs/DIFFERENCES.md lists, by its row
 UNLISTED, ABOVE, COUNTS = '1 a rule that is not listed', '2 changed above or beside a mark', '3 other child counts'
-INSIDE = '8 a mark inside a marked subterm'
+INSIDE, SEVERAL = '8 a mark inside a marked subterm', '20 several marks of one direction, side by side'
+LISTED = UNLISTED, ABOVE, COUNTS, INSIDE, SEVERAL
 
-# how the Rust refuses a proof, and the numbers that may be given here then: the cause itself, or what the Rust passes in an earlier term
-REFUSED = [('panics: assertion failed: !flat_explanation[0]', {14}), ('panics: index out of bounds: the len is 0', {12}),
-           ('panics: assertion failed: has_forward ^ has_backward', {15, 16, 17, 18}), ('', {16, 17, 18})]
+# how the Rust refuses a proof, and the numbers that may be given here then: the cause itself, or what the Rust passes there or in an
+# earlier term
+DIRECTIONS = 'panics: assertion failed: has_forward ^ has_backward'
+REFUSED = [('panics: assertion failed: !flat_explanation[0]', {14}), ('panics: index out of bounds: the len is 0', {12}), ('', {15, 16, 17})]
 
 
 def terms_of(words):
@@ -36,13 +38,30 @@ def first_fault(words, a, b, e, rules):
     return 'nowhere'
 
 
+def several(words, a, e):
+    """The listed difference that a term's marks are: more than one, all of one direction. None where they are not."""
+    found = marked(words, a, e)
+    if len(found) < 2 or len({words[i + 2] for i in found}) > 1:
+        return None
+    return INSIDE if any(i < j < term_end(words, i) for i in found for j in found) else SEVERAL
+
+
 def difference(rules, words, number, place):
     """The listed difference by which the Rust may pass what is refused here."""
-    if number == 16:
-        return UNLISTED
-    if number == 18:
-        return INSIDE
-    if number == 17:
-        ends = terms_of(words)
-        return first_fault(words, ends[place - 1], ends[place], ends[place + 1], rules)
-    return f'{number} at {place}'
+    ends = terms_of(words)
+    why = None
+    if number == 15:
+        why = several(words, *ends[place:place + 2])
+    elif number == 16:
+        why = UNLISTED
+    elif number == 17:
+        why = first_fault(words, ends[place - 1], ends[place], ends[place + 1], rules)
+    return why or f'{number} at {place}'
+
+
+def alike(rules, words, number, place, said):
+    """Whether the Rust's refusal may stand beside the one given here."""
+    # no mark, or both directions: the Rust looks for that before it looks at the step
+    if number == 15 and difference(rules, words, number, place) not in LISTED:
+        return said.startswith(DIRECTIONS)
+    return number in next(numbers for start, numbers in REFUSED if said.startswith(start))

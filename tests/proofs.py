@@ -95,8 +95,8 @@ def words(t, marks, path=()):
     return [t[0], len(t[1]), direction, number] + [w for i, k in enumerate(t[1]) for w in words(k, marks, path + (i,))]
 
 
-def proof(rng, found, steps):
-    """A proof's terms as runs of words."""
+def parallel(rng, found, steps):
+    """Terms made by rewriting, as runs of words: some of several marks, where several places were rewritten at once."""
     t = term(rng, 3)
     terms = [words(t, {})]
     for _ in range(steps):
@@ -106,6 +106,11 @@ def proof(rng, found, steps):
         t, marks = made
         terms.append(words(t, marks))
     return terms
+
+
+def proof(rng, found, steps):
+    """A proof's terms as runs of words: each later one has one mark."""
+    return split(parallel(rng, found, steps))
 
 
 def damaged(rng, terms):
@@ -209,6 +214,11 @@ def singly(earlier, later):
     return made
 
 
+def several(terms):
+    """the place of the first term that has several marks, or None"""
+    return next((k for k, t in enumerate(terms) if sum(m > 0 for m in t[2::4]) > 1), None)
+
+
 def split(terms):
-    """the proof with one mark a step"""
+    """the same rewriting with one mark a step"""
     return terms[:1] + [t for k in range(1, len(terms)) for t in singly(terms[k - 1], terms[k])]

@@ -282,6 +282,11 @@ def step(rules, words, a, b, e):
     return True
 
 
+def marked(words, a, e):
+    """where the marked nodes of a term stand"""
+    return [i for i in range(a, e, 4) if words[i + 2]]
+
+
 def check(rules, words):
     """The count of terms; Refused with number and place otherwise. `rules` are accepted."""
     listed = {r[0]: r for r in rules}
@@ -297,21 +302,15 @@ def check(rules, words):
         ends.append(at)
     if len(ends) > TERMS:
         raise Refused(19)
-    if any(words[i] for i in range(2, ends[0], 4)):
+    if marked(words, 0, ends[0]):
         raise Refused(14)
     before = 0
     for k in range(1, len(ends)):
         a, e = ends[k - 1], ends[k]
-        marks = {words[i] for i in range(a + 2, e, 4)} - {0}
-        if len(marks) != 1:
+        found = marked(words, a, e)
+        if len(found) != 1:
             raise Refused(15, k)
-        inside = a
-        for i in range(a, e, 4):
-            if words[i + 2]:
-                if i < inside:
-                    raise Refused(18, k)
-                inside = term_end(words, i)
-        if any(words[i + 2] and words[i + 3] not in listed for i in range(a, e, 4)):
+        if words[found[0] + 3] not in listed:
             raise Refused(16, k)
         if not step(listed, words, before, a, e):
             raise Refused(17, k)

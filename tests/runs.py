@@ -1,7 +1,7 @@
 """Whole runs of the program, as named rows: what is read and what must be printed. An output is written by hand where it is short, or
 by a rule that says what each line is; the few others, None here, are made by tests/reference.py. `rows` has them all in bytes."""
 from reference import output
-from scope import AREA, DIGITS, NODES, R7, R9, R10, RULES, many
+from scope import AREA, DIGITS, NODES, R7, R9, R10, R11, RULES, many
 from stored import connection_line, deep_lines, node_line, offered_line, query_line, rule_line, table_lines
 from tables import by_rule, chain, changed_leaf, congruent, deepest, leaning, nested, rising, runs_under, scrambled, tied, tower
 
@@ -38,9 +38,11 @@ def term(*nodes):
     return offered_line([w for node in nodes for w in node])
 
 
-# nodes of offered terms: leaves, and an o5 of two children
-O1, O2, O5 = (1, 0, 0, 0), (2, 0, 0, 0), (5, 2, 0, 0)
+# nodes of offered terms: leaves, an o3 of one child, and an o5 of two, three and eight
+O1, O2, O3, O5, O5_OF_3, O5_OF_8 = (1, 0, 0, 0), (2, 0, 0, 0), (3, 1, 0, 0), (5, 2, 0, 0), (5, 3, 0, 0), (5, 8, 0, 0)
 FORTH, BACK, UNLISTED = (2, 0, 1, 7), (1, 0, 2, 7), (2, 0, 1, 8)
+# r11 makes any term t to (o6 t), so that a mark may stand at the o6 and another one inside t
+WRAPPING, WRAPPER, WRAPPED = [*RULE_LINES, rule_line(R11)], (6, 1, 0, 0), (6, 1, 1, 11)
 LEAVES = [node_line((1, []))] * NODES
 LISTED = [rule_line(r) for r in many(RULES)]
 
@@ -122,22 +124,52 @@ REFUSALS = [
     ('13 before 14', [*RULE_LINES, term(FORTH), term((3, 1, 0, 0)), '06'], ['rejected 13 term 0']),
     ('14 the first term marked', [*RULE_LINES, term(FORTH), '06'], ['rejected 14 term 0']),
     ('14 inside the first term', [*RULE_LINES, term((3, 1, 0, 0), FORTH), '06'], ['rejected 14 term 0']),
+    ('14 two marks in the first term', [*RULE_LINES, term(O5, FORTH, FORTH), '06'], ['rejected 14 term 0']),
     ('14 before 15', [*RULE_LINES, term(FORTH), term(O1), '06'], ['rejected 14 term 0']),
     ('15 a later term without a mark', [*RULE_LINES, term(O1), term(O1), '06'], ['rejected 15 term 1']),
-    ('15 both directions', [*RULE_LINES, term(O5, O1, O2), term(O5, FORTH, BACK), '06'], ['rejected 15 term 1']),
-    ('15 before 18, 16 and 17, one mark inside the other', [*RULE_LINES, term(O1), term((5, 1, 1, 8), BACK), '06'], ['rejected 15 term 1']),
-    ('18 a mark inside a marked subterm', [*RULE_LINES, term(O1), term((5, 1, 1, 7), FORTH), '06'], ['rejected 18 term 1']),
-    ('18 before 16', [*RULE_LINES, term(O1), term((5, 1, 1, 8), UNLISTED), '06'], ['rejected 18 term 1']),
+    ('15 no mark, before 17', [*RULE_LINES, term(O1), term(O2), '06'], ['rejected 15 term 1']),
+    ('15 two marks side by side, forward', [*RULE_LINES, term(O5, O1, O1), term(O5, FORTH, FORTH), '06'], ['rejected 15 term 1']),
+    ('15 two marks side by side, backward', [*RULE_LINES, term(O5, O2, O2), term(O5, BACK, BACK), '06'], ['rejected 15 term 1']),
+    ('15 two marks side by side, of both directions', [*RULE_LINES, term(O5, O1, O2), term(O5, FORTH, BACK), '06'], ['rejected 15 term 1']),
+    ('15 two marks in two depths', [*RULE_LINES, term(O5, O1, O3, O1), term(O5, FORTH, O3, FORTH), '06'], ['rejected 15 term 1']),
+    ('15 one mark inside the other, of one direction', [*WRAPPING, term(O1), term(WRAPPED, (1, 0, 1, 11)), '06'], ['rejected 15 term 1']),
+    ('15 one mark inside the other, of both directions', [*WRAPPING, term(O1), term(WRAPPED, (1, 0, 2, 11)), '06'], ['rejected 15 term 1']),
+    ('15 one mark far inside the other', [*WRAPPING, term(O3, O3, O1), term(WRAPPED, O3, O3, (1, 0, 1, 7)), '06'], ['rejected 15 term 1']),
+    ('15 three marks', [*RULE_LINES, term(O5_OF_3, O1, O1, O1), term(O5_OF_3, FORTH, FORTH, FORTH), '06'], ['rejected 15 term 1']),
+    ('15 three marks, one of the other direction', [*RULE_LINES, term(O5_OF_3, O1, O2, O1), term(O5_OF_3, FORTH, BACK, FORTH), '06'],
+     ['rejected 15 term 1']),
+    ('15 eight marks', [*RULE_LINES, term(O5_OF_8, *[O1] * 8), term(O5_OF_8, *[FORTH] * 8), '06'], ['rejected 15 term 1']),
+    ('15 before 16, the first of two marks', [*RULE_LINES, term(O5, O1, O1), term(O5, UNLISTED, FORTH), '06'], ['rejected 15 term 1']),
+    ('15 before 16, the second of two marks', [*RULE_LINES, term(O5, O1, O1), term(O5, FORTH, UNLISTED), '06'], ['rejected 15 term 1']),
+    ('15 before 16, one mark inside the other', [*WRAPPING, term(O1), term(WRAPPED, (1, 0, 1, 8)), '06'], ['rejected 15 term 1']),
+    ('15 before 17, two marks', [*RULE_LINES, term(O5, O1, O2), term(O5, FORTH, FORTH), '06'], ['rejected 15 term 1']),
+    ('15 before 17, something else changed', [*RULE_LINES, term((6, 2, 0, 0), O1, O1), term(O5, FORTH, FORTH), '06'], ['rejected 15 term 1']),
+    ('15 before 17, one mark inside the other', [*RULE_LINES, term(O1), term((5, 1, 1, 7), FORTH), '06'], ['rejected 15 term 1']),
+    ('15 before 16 and 17, of one direction', [*RULE_LINES, term(O1), term((5, 1, 1, 8), UNLISTED), '06'], ['rejected 15 term 1']),
+    ('15 before 16 and 17, of both directions', [*RULE_LINES, term(O1), term((5, 1, 1, 8), BACK), '06'], ['rejected 15 term 1']),
+    ('15 the mark of the step before left in its place', [*RULE_LINES, term(O5, O1, O1), term(O5, FORTH, O1), term(O5, FORTH, FORTH), '06'],
+     ['rejected 15 term 2']),
     ('16 an unlisted rule', [*RULE_LINES, term(O1), term(UNLISTED), '06'], ['rejected 16 term 1']),
     ('16 before 17', [*RULE_LINES, term(O1), term((3, 1, 0, 0), UNLISTED), '06'], ['rejected 16 term 1']),
-    ('16 beside a listed one', [*RULE_LINES, term(O5, O1, O1), term(O5, FORTH, UNLISTED), '06'], ['rejected 16 term 1']),
+    ('16 of term 1 before 15 of term 2', [*RULE_LINES, term(O1), term(UNLISTED), term(O2), '06'], ['rejected 16 term 1']),
     ('17 backward instead of forward', [*RULE_LINES, term(O1), term((2, 0, 2, 7)), '06'], ['rejected 17 term 1']),
+    ('17 a leaf changed before the mark', [*RULE_LINES, term(O5, O1, O1), term(O5, O2, FORTH), '06'], ['rejected 17 term 1']),
+    ('17 a leaf changed behind the mark', [*RULE_LINES, term(O5, O1, O1), term(O5, FORTH, O2), '06'], ['rejected 17 term 1']),
     ('17 of term 1 before 15 of term 2', [*RULE_LINES, term(O2), term(FORTH), term(O1), '06'], ['rejected 17 term 1']),
     ('15 of term 2 behind a good term 1', [*RULE_LINES, term(O1), term(FORTH), term(O2), '06'], ['rejected 15 term 2']),
 ]
 
 STEPS = [
-    ('two marks side by side', [*RULE_LINES, term(O5, O1, O1), term(O5, FORTH, FORTH), '06'], ['accepted 2']),
+    # what 15 refuses with two marks in one term, in two terms of one mark each
+    ('two rewrites side by side', [*RULE_LINES, term(O5, O1, O1), term(O5, FORTH, O1), term(O5, O2, FORTH), '06'], ['accepted 3']),
+    ('the same from right to left', [*RULE_LINES, term(O5, O1, O1), term(O5, O1, FORTH), term(O5, FORTH, O2), '06'], ['accepted 3']),
+    ('two rewrites side by side, of both directions', [*RULE_LINES, term(O5, O1, O2), term(O5, FORTH, O2), term(O5, O2, BACK), '06'],
+     ['accepted 3']),
+    ('two rewrites, one inside the other', [*WRAPPING, term(O1), term(WRAPPED, O1), term(WRAPPER, WRAPPED, O1), '06'], ['accepted 3']),
+    ('the same place again and again', [*RULE_LINES, term(O5, O1, O1), *[term(O5, mark, O1) for mark in (FORTH, BACK, FORTH)], '06'],
+     ['accepted 4']),
+    ('a marked subterm that grows between two others', [*WRAPPING, term(O5_OF_3, O1, O1, O2), term(O5_OF_3, O1, WRAPPED, O1, O2), '06'],
+     ['accepted 2']),
     ('a variable only on the left, backward', [rule_line(R10), term(O1), term((5, 2, 2, 10), O1, O2), '06'], ['accepted 2']),
     ('bindings are compared without marks',
      [*RULE_LINES, rule_line(R9), term(O5, O1, O2), term(O5, FORTH, O2), term((2, 0, 1, 9)), '06'], ['accepted 3']),

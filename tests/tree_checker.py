@@ -46,12 +46,12 @@ def match(side, tree, bound):
 
 
 def nodes(tree):
-    """every node, with the marked nodes above it"""
-    stack = [(tree, 0)]
+    """every node"""
+    stack = [tree]
     while stack:
-        here, above = stack.pop()
-        yield here, above
-        stack += [(child, above + (here.mark != 0)) for child in here.children]
+        here = stack.pop()
+        yield here
+        stack += here.children
 
 
 def step(rules, earlier, later):
@@ -74,12 +74,10 @@ def step(rules, earlier, later):
 
 def later_fault(rules, earlier, later):
     """the number by which a later term is refused, or 0"""
-    marked = [(node, above) for node, above in nodes(later) if node.mark]
-    if len({node.mark for node, _ in marked}) != 1:
+    named = [node.rule for node in nodes(later) if node.mark]
+    if len(named) != 1:
         return 15
-    if any(above for _, above in marked):
-        return 18
-    if any(node.rule not in rules for node, _ in marked):
+    if named[0] not in rules:
         return 16
     return 0 if step(rules, earlier, later) else 17
 
@@ -95,7 +93,7 @@ def verdict(rules, words):
         return 13, 0
     if len(terms) > TERMS:
         return 19, 0
-    if any(node.mark for node, _ in nodes(terms[0])):
+    if any(node.mark for node in nodes(terms[0])):
         return 14, 0
     listed = {number: (pattern(left), pattern(right)) for number, left, right in rules}
     for place in range(1, len(terms)):

@@ -31,9 +31,19 @@ def line(say):
     return lambda self, text: say(self, re.sub(r'^(refused [1-7] line )(\d+)', lambda m: f'{m[1]}{int(m[2]) - 1}', text))
 
 
+def several(marked):
+    """marks that are alike, of one direction and one rule, count as one"""
+    def alike(words, a, e):
+        found = marked(words, a, e)
+        return found[:1] if len({tuple(words[i + 2:i + 4]) for i in found}) == 1 else found
+    return alike
+
+
 # the error, where it stands, and the arms that can see it
 WRONG = {
     'direction': (direction, reference, 'fits', ('library', 'trees', 'rust', 'program')),
+    # the Rust passes such terms as well (rows 8 and 20 of docs/DIFFERENCES.md), and cannot see this one
+    'several': (several, reference, 'marked', ('library', 'trees', 'program')),
     'walked': (walked, reference.Forest, 'path', ('library', 'rust', 'program')),
     'listed': (listed, reference, 'judge_rule', ('library', 'program')),
     'limit': (lambda limit: limit - 1, reference, 'DISTANCE', ('library', 'rust', 'program')),

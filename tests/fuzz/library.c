@@ -115,9 +115,14 @@ static struct answer check(const struct asked *t, const uint16_t *words, size_t 
 {
     struct answer a = {.value = 77};
     a.number = erbighenti_check(TABLES(t), words, length, &a.value);
-    hold(a.number == 0 || (a.number >= 2 && a.number <= 7) || (a.number >= 12 && a.number <= 19), "a number of the checker");
+    /* 18 is nobody's number */
+    hold(a.number == 0 || (a.number >= 2 && a.number <= 7) || (a.number >= 12 && a.number <= 17) || a.number == 19, "a number of the checker");
     hold(a.number ? a.value < ERBIGHENTI_TERMS : a.value >= 1 && a.value <= ERBIGHENTI_TERMS, "a place or a count of terms");
-    hold(a.number == 0 || (a.number >= 15 && a.number <= 18) == (a.value > 0), "a place of a later term just where one is refused");
+    hold(a.number == 0 || (a.number >= 15 && a.number <= 17) == (a.value > 0), "a place of a later term just where one is refused");
+    uint64_t marks = 0;
+    for (size_t k = 2; k < length && a.number == 0; k += FLAT)
+        marks += words[k] != 0;
+    hold(a.number || marks == a.value - 1, "an accepted proof has a mark for each term behind the first");
     return a;
 }
 

@@ -27,6 +27,10 @@ uint16_t spoiled_check(const uint16_t *nodes, size_t nodes_len, const uint16_t *
         *value = 1;
     if (spoil == 5 && number == 12 && nodes_len > 0) /* nodes play a part */
         number = 13;
+    if (spoil == 25 && number == 15) /* no mark is let pass, or several */
+        number = 0, *value = 2;
+    if (spoil == 26 && number == 15) /* a number that is nobody's */
+        number = 18;
     return number;
 }
 

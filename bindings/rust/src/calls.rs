@@ -115,10 +115,10 @@ pub fn query<'a>(tables: Tables<'_>, left: Node, right: Node, area: &'a mut [u16
     Ok(Written { distance: distance as usize, words: &area[..written as usize] })
 }
 
-/// The strict checker: the count of terms of an accepted proof. Every step of it is an instance of a listed rule at the marked place, and
-/// nothing else changed.
+/// The strict checker: the count of terms of an accepted proof. Each term behind the first is a step, with one mark: an instance of a listed
+/// rule at the marked place, and nothing else changed.
 ///
-/// Refused by 2 to 7 for the tables, 12 to 19 for the proof, with the term's place.
+/// Refused by 2 to 7 for the tables, 12 to 17 and 19 for the proof, with the term's place.
 #[allow(unsafe_code)]
 pub fn check(tables: Tables<'_>, words: &[u16]) -> Result<usize, Rejection> {
     let mut value = 0;

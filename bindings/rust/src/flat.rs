@@ -84,7 +84,7 @@ impl<'a> Term<'a> {
         Terms { words: &self.words[TERM_NODE_WORDS..] }
     }
 
-    /// Its marked subterms, from left to right: what the step to this term changed, if it is a later one of a proof.
+    /// Its marked subterms, from left to right. A later term of an accepted proof has one: what the step to it changed.
     pub fn marked(self) -> impl Iterator<Item = Term<'a>> {
         let places = (0..self.words.len()).step_by(TERM_NODE_WORDS);
         places.filter(move |at| self.words[at + 2] != 0).filter_map(move |at| Some(Term::first(&self.words[at..]).ok()?.0))

@@ -1,7 +1,8 @@
 //! Document 01's numbers: why a call was refused.
 use core::fmt;
 
-/// Why a call was refused: document 01's numbers 1 to 19. The library gives the lowest that holds, in document 01's order.
+/// Why a call was refused: document 01's numbers 1 to 17 and 19. The library gives the lowest that holds, in document 01's order. 18 is
+/// nobody's number: a mark inside a marked subterm, which it once stood for, is a second mark, and so 15.
 #[derive(Clone, Copy, Debug, PartialEq, Eq, PartialOrd, Ord, Hash)]
 #[repr(u16)]
 #[non_exhaustive]
@@ -34,14 +35,12 @@ pub enum Refusal {
     NoTerms = 13,
     /// 14: the first term is marked.
     FirstMarked = 14,
-    /// 15: a later term has no mark, or marks of both directions.
+    /// 15: a later term does not have exactly one mark.
     Marks = 15,
     /// 16: a mark names a rule that is not listed.
     UnlistedRule = 16,
     /// 17: a step is none: something changed away from the mark, or the rule does not make this change.
     NoStep = 17,
-    /// 18: a mark inside a marked subterm.
-    NestedMark = 18,
     /// 19: over 1,048,576 words, or over 16,384 terms.
     TooLong = 19,
 }
@@ -50,7 +49,7 @@ use Refusal::*;
 
 impl Refusal {
     /// All of them, by number.
-    pub const ALL: [Refusal; 19] = [
+    pub const ALL: [Refusal; 18] = [
         Line,
         Field,
         TableFull,
@@ -68,7 +67,6 @@ impl Refusal {
         Marks,
         UnlistedRule,
         NoStep,
-        NestedMark,
         TooLong,
     ];
 
@@ -77,7 +75,7 @@ impl Refusal {
         self as u16
     }
 
-    /// The refusal of a number, if there is one: 0 is success.
+    /// The refusal of a number, if there is one: 0 is success, and 18 nobody's.
     pub fn of_number(number: u16) -> Option<Refusal> {
         Refusal::ALL.into_iter().find(|refusal| refusal.number() == number)
     }
@@ -99,10 +97,9 @@ impl Refusal {
             NoWords => "proof of no words",
             NoTerms => "words are no whole number of terms, count above 8, mark above 2, unmarked node with a rule",
             FirstMarked => "first term marked",
-            Marks => "a later term has no mark, or marks of both directions",
+            Marks => "a later term does not have exactly one mark",
             UnlistedRule => "a mark names an unlisted rule",
             NoStep => "a step fails: something changed away from its mark, or its rule does not make the change at it",
-            NestedMark => "a mark inside a marked subterm",
             TooLong => "over 1,048,576 words, or over 16,384 terms",
         }
     }

@@ -148,10 +148,14 @@ def main(seed, count):
     for _ in range(count):
         nodes, links = random_table(rng)
         found = proofs.rules(rng, rng.randrange(1, 4))
-        terms = proofs.proof(rng, found, rng.randrange(5))
+        # some with several marks in a term, and the same with one mark a step
+        several = proofs.parallel(rng, found, rng.randrange(5))
+        terms = proofs.split(several)
         whole = [w for t in terms for w in t]
         tables = made(nodes, proofs.table(found) + [R7], links)
         ask(rng, tables, whole)
+        if several != terms:
+            ask(rng, tables, [w for t in several for w in t])
         for _ in range(2):
             ask(rng, tables, proofs.damaged(rng, terms))
         ask(rng, damaged(rng, tables), whole)

@@ -1,42 +1,35 @@
 -- Demand 1 of the strict checker, over accepted rules: `verdict` rejects by a number at a place exactly where that fault is the first.
 -- Assumes nothing.
 use Prim.Native.Nat.{ℕ, zero, suc, _+_, _≤_, _<_}
-use mathlib.Core.Bool.{Bool, true, false, not, _&&_, _||_}
+use mathlib.Core.Bool.{Bool, true, false, not}
 use mathlib.Core.List.{List, []}
 use mathlib.Core.Logic.{_⊎_, inl, inr, _↔_}
 use mathlib.Core.Option.{Option, none, some, Option·none-ne-some}
 use mathlib.Core.Path.{_≡_, refl, sym, _∙_, ap, subst}
 use native.Mathlib.Omega.{arith}
 use borrow.Author.Tests.{ltb-false, ltb-true, le-ltb, lt-ltb}
-use lib.Dec.{ltb}
+use lib.Dec.{eqb, ltb}
 use lib.ListN.{length}
-use Rattle.model.specs.declared.Direction.the-variants.{Forward, Backward}
 use Rattle.model.specs.declared.Verdict.{Verdict}
 use Rattle.model.specs.declared.Verdict.the-variants.{Accepted, Rejected}
 use Rattle.model.specs.Limits.{termLimit, wordLimit}
-use Rattle.model.specs.Term.{Mark, Terms, noTerms, tree, Term, one, put, count, Reads, words, read}
+use Rattle.model.specs.Term.{Mark, Terms, noTerms, tree, Term, one, put, count, marks, Reads, words, read}
 use Rattle.model.specs.Rule.{Rule}
-use Rattle.model.specs.Step.{Step, step, someMark, isMark, goes, nested, unlisted}
+use Rattle.model.specs.Step.{Step, step, someMark, isMark, unlisted}
 use Rattle.model.specs.Verdict.{rejectIf, laterVerdict, chainVerdict, termsVerdict, verdict}
 use Rattle.terms.specs.Place.{Decides}
 use Rattle.terms.proofs.Only.{one-answer}
 use Rattle.terms.proofs.Read.{read-words, reads-read}
-use Rattle.checker.specs.Fault.{Somewhere, Marks, Unknown, NotOneWay, Inside, LaterFault, is-15, is-18, is-16, is-17, At, FirstLater, Formed, FirstMarked, FirstFault, words-19, words-12, words-13, terms-19, first-14, later-by}
-use Rattle.checker.proofs.Tests.{not-one-way, is-nested, is-unlisted, is-step, is-marked, opposite}
+use Rattle.checker.specs.Fault.{Somewhere, Marks, Unknown, NotOne, LaterFault, is-15, is-16, is-17, At, FirstLater, Formed, FirstMarked, FirstFault, words-19, words-12, words-13, terms-19, first-14, later-by}
+use Rattle.checker.proofs.Tests.{not-one, is-unlisted, is-step, is-marked, opposite}
 
 -- ONE LATER TERM
 module _ (rs : List Rule) (s t : Terms) where
   abbrev Clean : Type 0
   Clean = (n : ℕ) → LaterFault rs s t n → ⊥
 
-  abbrev wrong : Bool
-  wrong = not (someMark isMark t) || (someMark (goes Forward) t && someMark (goes Backward) t)
-
-  no-15 : (NotOneWay t → ⊥) → wrong ≡ false
-  no-15 = one-answer wrong false _ (not-one-way t)
-
-  no-18 : (Inside t → ⊥) → nested t ≡ false
-  no-18 = one-answer (nested t) false _ (is-nested t)
+  no-15 : (NotOne t → ⊥) → not (eqb (marks t) 1) ≡ false
+  no-15 = one-answer (not (eqb (marks t) 1)) false _ (not-one t)
 
   no-16 : (Somewhere (Unknown rs) t → ⊥) → unlisted rs t ≡ false
   no-16 = one-answer (unlisted rs t) false _ (is-unlisted rs t)
@@ -44,37 +37,33 @@ module _ (rs : List Rule) (s t : Terms) where
   -- where it has a fault, that number is given, whatever comes behind it
   fails : (n k : ℕ) (v : Verdict) → LaterFault rs s t n → laterVerdict rs k s t v ≡ Rejected n k
   unfolding laterVerdict
-  fails n k v (is-15 a) = rw (one-answer wrong true _ (not-one-way t) a) refl
-  fails n k v (is-18 a b) = rw (no-15 a, one-answer (nested t) true _ (is-nested t) b) refl
-  fails n k v (is-16 a b c) = rw (no-15 a, no-18 b, one-answer (unlisted rs t) true _ (is-unlisted rs t) c) refl
-  fails n k v (is-17 a b c d) = rw (no-15 a, no-18 b, no-16 c, one-answer (step rs s t) false _ (is-step rs s t) d) refl
+  fails n k v (is-15 a) = rw (one-answer (not (eqb (marks t) 1)) true _ (not-one t) a) refl
+  fails n k v (is-16 a b) = rw (no-15 a, one-answer (unlisted rs t) true _ (is-unlisted rs t) b) refl
+  fails n k v (is-17 a b c) = rw (no-15 a, no-16 b, one-answer (step rs s t) false _ (is-step rs s t) c) refl
 
   -- and where it has none, what comes behind it decides
   passes : (k : ℕ) (v : Verdict) → Clean → laterVerdict rs k s t v ≡ v
   unfolding laterVerdict
   passes k v f =
-      let a : NotOneWay t → ⊥ = λ x. f 15 (is-15 x) in
-      let b : Inside t → ⊥ = λ x. f 18 (is-18 a x) in
-      let c : Somewhere (Unknown rs) t → ⊥ = λ x. f 16 (is-16 a b x) in
-      let d : (Step rs s t → ⊥) → ⊥ = λ x. f 17 (is-17 a b c x) in
-      rw (no-15 a, no-18 b, no-16 c, one-answer (not (step rs s t)) false _ (opposite (step rs s t) _ (is-step rs s t)) d) refl
+      let a : NotOne t → ⊥ = λ x. f 15 (is-15 x) in
+      let b : Somewhere (Unknown rs) t → ⊥ = λ x. f 16 (is-16 a x) in
+      let c : (Step rs s t → ⊥) → ⊥ = λ x. f 17 (is-17 a b x) in
+      rw (no-15 a, no-16 b, one-answer (not (step rs s t)) false _ (opposite (step rs s t) _ (is-step rs s t)) c) refl
 
   decided : ((n : ℕ) × LaterFault rs s t n) ⊎ Clean
-  decided = by wrong (nested t) (unlisted rs t) (step rs s t) (not-one-way t) (is-nested t) (is-unlisted rs t) (is-step rs s t)
+  decided = by (not (eqb (marks t) 1)) (unlisted rs t) (step rs s t) (not-one t) (is-unlisted rs t) (is-step rs s t)
     where
-      by : (a b c d : Bool) → Decides a (NotOneWay t) → Decides b (Inside t) → Decides c (Somewhere (Unknown rs) t) → Decides d (Step rs s t) →
+      by : (a b c : Bool) → Decides a (NotOne t) → Decides b (Somewhere (Unknown rs) t) → Decides c (Step rs s t) →
           ((n : ℕ) × LaterFault rs s t n) ⊎ Clean
-      by true b c d p q r u = inl (15, is-15 p)
-      by false true c d p q r u = inl (18, is-18 p q)
-      by false false true d p q r u = inl (16, is-16 p q r)
-      by false false false false p q r u = inl (17, is-17 p q r u)
-      by false false false true p q r u = inr clean
+      by true b c p q r = inl (15, is-15 p)
+      by false true c p q r = inl (16, is-16 p q)
+      by false false false p q r = inl (17, is-17 p q r)
+      by false false true p q r = inr clean
         where
           clean : Clean
           clean n (is-15 x) = p x
-          clean n (is-18 a x) = q x
-          clean n (is-16 a b x) = r x
-          clean n (is-17 a b c x) = x u
+          clean n (is-16 a x) = q x
+          clean n (is-17 a b x) = x r
 
 -- THE LATER TERMS of a row whose first is s; p is the place of the next
 no-accepted : {n k m : ℕ} {A : Type 0} → Accepted m ≡ Rejected n k → A
@@ -251,3 +240,20 @@ module _ (rs : List Rule) (ws : List ℕ) where
 -- DEMAND 1 of the checker
 pub demand-1 : (rs : List Rule) (ws : List ℕ) (n k : ℕ) → (verdict rs ws ≡ Rejected n k) ↔ FirstFault rs ws n k
 demand-1 rs ws n k = (rejected-first rs ws n k, first-rejected rs ws n k)
+
+-- 18 is nobody's number: no fault has it, so that no words are rejected by it
+pub never-18 : (rs : List Rule) (ws : List ℕ) (k : ℕ) → verdict rs ws ≡ Rejected 18 k → ⊥
+never-18 rs ws k h = of-fault 18 k refl (rejected-first rs ws 18 k h)
+  where
+    of-later : (s t : Terms) (n : ℕ) → n ≡ 18 → LaterFault rs s t n → ⊥
+    of-later s t n e (is-15 a) = omega (arith, e)
+    of-later s t n e (is-16 a b) = omega (arith, e)
+    of-later s t n e (is-17 a b c) = omega (arith, e)
+
+    of-fault : (n k : ℕ) → n ≡ 18 → FirstFault rs ws n k → ⊥
+    of-fault n k e (words-19 l) = omega (arith, e)
+    of-fault n k e (words-12 l z) = omega (arith, e)
+    of-fault n k e (words-13 l z u) = omega (arith, e)
+    of-fault n k e (terms-19 l z f r c) = omega (arith, e)
+    of-fault n k e (first-14 f w x) = omega (arith, e)
+    of-fault n k e (later-by f w u n′ k′ x) = of-later _ _ n′ e (x .fault)

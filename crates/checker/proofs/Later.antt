@@ -1,100 +1,67 @@
 -- The later terms, one behind the other: why one is refused, and the verdict on what is left.
 -- Assumes nothing.
 use Prim.Native.Nat.{ℕ, zero, suc, _+_, _-_, _≤_, _<_}
-use mathlib.Core.Bool.{Bool, true, false, not, _&&_, _||_}
+use mathlib.Core.Bool.{Bool, true, false, not}
 use mathlib.Core.List.{List, [], _∷_}
 use mathlib.Core.Option.{Option, none, some}
 use mathlib.Core.Path.{_≡_, refl, sym, _∙_, ap}
 use native.Mathlib.Numerals.{add-one}
 use native.Mathlib.Omega.{arith}
-use borrow.Author.Tests.{lt-ltb, le-ltb}
+use borrow.Author.Tests.{eq-eqb, ne-eqb, lt-ltb, le-ltb}
+use lib.Dec.{eqb}
 use lib.ListN.{length}
 use Rattle.model.specs.Tables.{ruleTable}
 use Rattle.model.specs.declared.Verdict.{Verdict}
 use Rattle.model.specs.declared.Verdict.the-variants.{Accepted, Rejected}
 use Rattle.model.specs.Judged.{good}
 use Rattle.model.specs.Limits.{termLimit, wordLimit}
-use Rattle.model.specs.declared.Direction.the-variants.{Forward, Backward}
-use Rattle.model.specs.Term.{Terms, noTerms, tree, Term, one, count, words, read}
+use Rattle.model.specs.Term.{Terms, noTerms, tree, Term, one, count, marks, words, read}
 use Rattle.model.specs.Rule.{Rule}
-use Rattle.model.specs.Step.{step, someMark, isMark, goes, nested, unlisted}
+use Rattle.model.specs.Step.{step, unlisted}
 use Rattle.model.specs.Verdict.{rejectIf, laterVerdict, chainVerdict, termsVerdict, verdict}
 use Rattle.terms.specs.Place.{TermAt, RowAt, Well, EndsAt}
 use Rattle.terms.proofs.Place.{row-tree, row-well, end-same, term-row, read-row}
 use Rattle.terms.specs.declared.WholeTerms.the-variants.{Count, Broken}
 use Rattle.terms.specs.Whole.{wholeOf}
 use Rattle.terms.proofs.Read.{read-words}
-use Rattle.marks.specs.declared.Directions.{Directions}
-use Rattle.marks.specs.Marks.{HasRow, directionsOf, MarkedIs}
-use Rattle.marks.proofs.Seen.{some-either}
+use Rattle.marks.specs.Marks.{HasRow, MarkedIs}
 use Rattle.rule_table.specs.Entries.{AcceptedRules}
-use Rattle.checker.specs.Check.{oneWay, faultIf, faultOf, FaultIs, chainOf, ChainIs}
-
--- marks of one direction, from the marks of both
-pub one-way-forward : (m : Directions) → m .forward ≡ true → not (m .backward) ≡ oneWay m
-one-way-forward m e = rw e (go (m .backward))
-  where
-    go : (b : Bool) → not b ≡ not (not (true || b) || (true && b))
-    go true = refl
-    go false = refl
-
-pub one-way-backward : (m : Directions) → m .forward ≡ false → m .backward ≡ oneWay m
-one-way-backward m e = rw e (go (m .backward))
-  where
-    go : (b : Bool) → b ≡ not (not (false || b) || (false && b))
-    go true = refl
-    go false = refl
-
-pub one-way-of : (f : Terms) (b : Bool) → oneWay (directionsOf f) ≡ b → (not (someMark isMark f) || (someMark (goes Forward) f && someMark (goes Backward) f)) ≡ not b
-one-way-of f b e =
-    let p : not (not (not (someMark (goes Forward) f || someMark (goes Backward) f) || (someMark (goes Forward) f && someMark (goes Backward) f))) ≡ not b = ap not e in
-    ap (λ (x : Bool). not x || (someMark (goes Forward) f && someMark (goes Backward) f)) (some-either f)
-    ∙ (sym (twice (not (someMark (goes Forward) f || someMark (goes Backward) f) || (someMark (goes Forward) f && someMark (goes Backward) f))) ∙ p)
-  where
-    twice : (x : Bool) → not (not x) ≡ x
-    twice true = refl
-    twice false = refl
+use Rattle.checker.specs.Check.{faultIf, faultOf, FaultIs, chainOf, ChainIs}
 
 -- the first fault that holds
 module _ (rs : List Rule) (s t : Terms) where
-  pub fault-way : oneWay (directionsOf t) ≡ false → 15 ≡ faultOf rs s t
+  pub fault-marks : (marks t ≡ 1 → ⊥) → 15 ≡ faultOf rs s t
   unfolding faultOf
-  fault-way a = rw (one-way-of t false a)
+  fault-marks a = rw (ne-eqb (marks t) 1 a)
 
-  pub fault-nested : oneWay (directionsOf t) ≡ true → nested t ≡ true → 18 ≡ faultOf rs s t
+  pub fault-unlisted : marks t ≡ 1 → unlisted rs t ≡ true → 16 ≡ faultOf rs s t
   unfolding faultOf
-  fault-nested a b = rw (one-way-of t true a, b)
+  fault-unlisted a b = rw (eq-eqb (marks t) 1 a, b)
 
-  pub fault-unlisted : oneWay (directionsOf t) ≡ true → nested t ≡ false → unlisted rs t ≡ true → 16 ≡ faultOf rs s t
+  pub fault-step : marks t ≡ 1 → unlisted rs t ≡ false → step rs s t ≡ false → 17 ≡ faultOf rs s t
   unfolding faultOf
-  fault-unlisted a b c = rw (one-way-of t true a, b, c)
+  fault-step a b c = rw (eq-eqb (marks t) 1 a, b, c)
 
-  pub fault-step : oneWay (directionsOf t) ≡ true → nested t ≡ false → unlisted rs t ≡ false → step rs s t ≡ false → 17 ≡ faultOf rs s t
+  pub fault-none : marks t ≡ 1 → unlisted rs t ≡ false → step rs s t ≡ true → 0 ≡ faultOf rs s t
   unfolding faultOf
-  fault-step a b c d = rw (one-way-of t true a, b, c, d)
-
-  pub fault-none : oneWay (directionsOf t) ≡ true → nested t ≡ false → unlisted rs t ≡ false → step rs s t ≡ true → 0 ≡ faultOf rs s t
-  unfolding faultOf
-  fault-none a b c d = rw (one-way-of t true a, b, c, d)
+  fault-none a b c = rw (eq-eqb (marks t) 1 a, b, c)
 
 -- a fault is the verdict, and where there is none the terms behind decide
 afterFault : ℕ → ℕ → Verdict → Verdict
 afterFault zero k v = v
 afterFault (suc n) k v = Rejected (suc n) k
 
-by-fault : (a b c d : Bool) (k : ℕ) (v : Verdict)
-    → rejectIf a 15 k (rejectIf b 18 k (rejectIf c 16 k (rejectIf d 17 k v))) ≡ afterFault (faultIf a 15 (faultIf b 18 (faultIf c 16 (faultIf d 17 0)))) k v
+by-fault : (a b c : Bool) (k : ℕ) (v : Verdict)
+    → rejectIf a 15 k (rejectIf b 16 k (rejectIf c 17 k v)) ≡ afterFault (faultIf a 15 (faultIf b 16 (faultIf c 17 0))) k v
 unfolding afterFault
-by-fault true b c d k v = refl
-by-fault false true c d k v = refl
-by-fault false false true d k v = refl
-by-fault false false false true k v = refl
-by-fault false false false false k v = refl
+by-fault true b c k v = refl
+by-fault false true c k v = refl
+by-fault false false true k v = refl
+by-fault false false false k v = refl
 
 later-by-fault : (rs : List Rule) (k : ℕ) (s t : Terms) (v : Verdict) → laterVerdict rs k s t v ≡ afterFault (faultOf rs s t) k v
 unfolding laterVerdict faultOf
-later-by-fault rs k s t v =
-    by-fault (not (someMark isMark t) || (someMark (goes Forward) t && someMark (goes Backward) t)) (nested t) (unlisted rs t) (not (step rs s t)) k v
+later-by-fault rs k s t v = by-fault (not (eqb (marks t) 1)) (unlisted rs t) (not (step rs s t)) k v
 
 some-fault : (n k : ℕ) (v : Verdict) → (n ≡ 0 → ⊥) → afterFault n k v ≡ Rejected n k
 unfolding afterFault
@@ -195,10 +162,10 @@ module _ (rws ws : List ℕ) (n : ℕ) where
         ap Accepted q ∙ done-behind rs f (b .term) (b .rest) (rw e at (b .row)) (b .same)
 
     -- terms stand at both places
-    pub later-before : AcceptedRules rws → HasRow ws 0 n → Well ws before
+    pub later-before : AcceptedRules rws → HasRow ws 0 n → EndsAt ws before at
     later-before a r =
         let b = w .here (a .rules) (a .are) (r .terms) (r .is) in
-        record { end = at; term = b .term; is = b .is }
+        record { term = b .term; is = b .is }
 
     pub later-at : AcceptedRules rws → HasRow ws 0 n → k < n → Well ws at
     later-at a r l =

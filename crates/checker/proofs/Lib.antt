@@ -1,10 +1,11 @@
 pub mod Steps
 pub mod Verdicts
 pub mod DemandTwo
+pub mod Positions
 pub mod Book
-pub mod Names
-pub mod Allow
-pub mod Pairs
+pub mod Rewritings
+pub mod Front
+pub mod Split
 pub mod Later
 pub mod Tests
 pub mod Faults

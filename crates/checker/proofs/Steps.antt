@@ -1,16 +1,18 @@
 -- The computed step is the declared one: `step` holds exactly where `Step` does.
-use Prim.Native.Nat.{ℕ}
+use Prim.Native.Nat.{ℕ, _≤_}
 use mathlib.Core.Bool.{Bool, true, false, not, _&&_, and-eq-true-iff, true≢false}
 use mathlib.Core.List.{List}
 use mathlib.Core.Option.{Option, none, some}
 use mathlib.Core.Path.{_≡_, refl, sym, _∙_, ap, subst}
+use native.Mathlib.Omega.{arith}
 use borrow.Author.Tests.{eqb-true, eq-eqb}
-use Rattle.model.specs.Term.{Mark, unmarked, marked, Terms, noTerms, tree}
+use Rattle.model.specs.Term.{Mark, unmarked, marked, Terms, noTerms, tree, marks}
 use Rattle.model.specs.Rule.{Rule, listed, isListed}
-use Rattle.model.specs.Step.{leftOf, rightOf, ByRule, Allowed, Step, fitsRule, allowed, step, isMark, someMark, nested, namesUnlisted, unlisted}
+use Rattle.model.specs.Step.{leftOf, rightOf, ByRule, Allowed, Step, fitsRule, allowed, step, someMark, namesUnlisted, unlisted}
 use Rattle.model.specs.Pattern.{Patterns, Instance, fits}
-use Rattle.laws.proofs.Truth.{neither, nor}
+use Rattle.laws.proofs.Truth.{nor}
 use Rattle.terms.specs.Place.{Decides}
+use Rattle.terms.proofs.Marks.{no-mark}
 use Rattle.matching.proofs.Matching.{fits-decides}
 
 and : {a b : Bool} → a ≡ true → b ≡ true → (a && b) ≡ true
@@ -67,25 +69,16 @@ step-complete rs (tree o m k s) (tree o′ unmarked k′ s′) h =
 step-complete rs (tree o m k s) (tree o′ (marked d n) k′ s′) h =
     and (allowed-complete rs (marked d n) _ _ (h .0)) (step-complete rs s s′ (h .1))
 
--- where there is no mark, none names an unlisted rule
-unmarked-listed : (rs : List Rule) (f : Terms) → someMark isMark f ≡ false → someMark (namesUnlisted rs) f ≡ false
-unfolding someMark
-unmarked-listed rs noTerms h = refl
-unmarked-listed rs (tree o unmarked k s) h =
-    let (a, b) = neither _ _ h in nor (unmarked-listed rs k a) (unmarked-listed rs s b)
-unmarked-listed rs (tree o (marked d n) k s) h = absurd (true≢false h)
-
 by-listed : (rs : List Rule) (n : ℕ) (s t : Terms) → ByRule rs n s t → not (isListed (listed rs n)) ≡ false
 by-listed rs n s t b = ap (λ (o : Option Rule). not (isListed o)) (b .isIn)
 
--- what steps, with no mark inside another, names listed rules alone: so 16 is never given for it
-pub step-listed : (rs : List Rule) (s t : Terms) → Step rs s t → nested t ≡ false → unlisted rs t ≡ false
-unfolding Step nested unlisted someMark
+-- what steps, with no second mark, names listed rules alone: so 16 is never given for it
+pub step-listed : (rs : List Rule) (s t : Terms) → Step rs s t → marks t ≤ 1 → unlisted rs t ≡ false
+unfolding Step marks unlisted someMark
 step-listed rs noTerms noTerms h e = refl
 step-listed rs noTerms (tree o m k s) h e = absurd h
 step-listed rs (tree o m k s) noTerms h e = absurd h
 step-listed rs (tree o m k s) (tree o′ unmarked k′ s′) h e =
-    let (a, b) = neither _ _ e in nor (step-listed rs k k′ (h .1) a) (step-listed rs s s′ (h .2) b)
+    nor (step-listed rs k k′ (h .1) (omega arith)) (step-listed rs s s′ (h .2) (omega arith))
 step-listed rs (tree o m k s) (tree o′ (marked d n) k′ s′) h e =
-    let (a, b) = neither _ _ e in
-    nor (by-listed rs n _ _ (h .0)) (nor (unmarked-listed rs k′ a) (step-listed rs s s′ (h .1) b))
+    nor (by-listed rs n _ _ (h .0)) (nor (no-mark (namesUnlisted rs) refl k′ (omega arith)) (no-mark (namesUnlisted rs) refl s′ (omega arith)))

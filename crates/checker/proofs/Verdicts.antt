@@ -1,23 +1,21 @@
 -- The verdict on terms: later terms are accepted exactly where they are a chain of steps.
 use Prim.Native.Nat.{ℕ, suc, _+_, _≤_}
-use mathlib.Core.Bool.{Bool, true, false, not, _&&_, _||_}
+use mathlib.Core.Bool.{Bool, true, false, not}
 use mathlib.Core.List.{List}
 use mathlib.Core.Option.{Option, none, some}
 use mathlib.Core.Path.{_≡_, refl, sym, _∙_, ap}
 use native.Mathlib.Omega.{arith}
-use borrow.Author.Tests.{ltb-false, le-ltb, not-false}
-use lib.Dec.{ltb}
+use borrow.Author.Tests.{eqb-true, eq-eqb, ltb-false, le-ltb, not-false}
+use lib.Dec.{eqb, ltb}
 use lib.ListN.{length}
 use Rattle.model.specs.declared.Verdict.{Verdict}
 use Rattle.model.specs.declared.Verdict.the-variants.{Accepted}
 use Rattle.model.specs.Limits.{termLimit, wordLimit}
-use Rattle.model.specs.declared.Direction.the-variants.{Forward, Backward}
-use Rattle.model.specs.Term.{Terms, noTerms, tree, count, read}
+use Rattle.model.specs.Term.{Terms, noTerms, tree, count, marks, read}
 use Rattle.model.specs.Rule.{Rule}
-use Rattle.model.specs.Step.{step, someMark, isMark, goes, nested, unlisted}
+use Rattle.model.specs.Step.{step, someMark, isMark, unlisted}
 use Rattle.model.specs.Verdict.{Later, Chain, Strict, Proves, rejectIf, laterVerdict, chainVerdict, termsVerdict, verdict}
 use Rattle.terms.proofs.Read.{read-words, reads-read}
-use Rattle.laws.proofs.Truth.{neither}
 use Rattle.checker.proofs.Steps.{step-sound, step-complete, step-listed}
 
 -- what was not rejected comes from behind the test
@@ -29,25 +27,15 @@ pub later-sound : (rs : List Rule) (k : ℕ) (s t : Terms) (v : Verdict) (n : �
     → Later rs s t × (v ≡ Accepted n)
 unfolding laterVerdict
 later-sound rs k s t v n h =
-    let (a, h₁) = passed (not (someMark isMark t) || (someMark (goes Forward) t && someMark (goes Backward) t)) 15 k _ n h in
-    let (b, h₂) = passed (nested t) 18 k _ n h₁ in
-    let (c, h₃) = passed (unlisted rs t) 16 k _ n h₂ in
-    let (d, h₄) = passed (not (step rs s t)) 17 k v n h₃ in
-    let (some-mark, one-way) = neither _ _ a in (
-      record {
-        someMarks = not-false _ some-mark;
-        oneWay = one-way;
-        apart = b;
-        arises = step-sound rs s t (not-false _ d);
-      },
-      h₄,
-    )
+    let (a, h₁) = passed (not (eqb (marks t) 1)) 15 k _ n h in
+    let (b, h₂) = passed (unlisted rs t) 16 k _ n h₁ in
+    let (c, h₃) = passed (not (step rs s t)) 17 k v n h₂ in
+    (record { oneMark = eqb-true _ _ (not-false _ a); arises = step-sound rs s t (not-false _ c) }, h₃)
 
 pub later-complete : (rs : List Rule) (k : ℕ) (s t : Terms) (v : Verdict) → Later rs s t → laterVerdict rs k s t v ≡ v
 unfolding laterVerdict
 later-complete rs k s t v l =
-    rw
-    (l .someMarks, l .oneWay, l .apart, step-listed rs s t (l .arises) (l .apart), step-complete rs s t (l .arises))
+    rw (eq-eqb _ _ (l .oneMark), step-listed rs s t (l .arises) (omega (arith, l .oneMark)), step-complete rs s t (l .arises))
 
 pub chain-sound : (rs : List Rule) (k : ℕ) (s f : Terms) (n : ℕ) → chainVerdict rs k s f ≡ Accepted n → Chain rs s f × (n ≡ k + count f)
 unfolding chainVerdict Chain count

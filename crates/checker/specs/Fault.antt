@@ -1,5 +1,5 @@
 -- Why the strict checker rejects words, in the words of document 01: each number, with its place, where its condition is the first to hold.
--- Nothing here is computed but where a node's mark is looked for; `checker/proofs/Faults.antt` has that `verdict` rejects just so.
+-- Nothing here is computed but where a node's mark is looked for, and the subterm at a position; `checker/proofs/Faults.antt` has that `verdict` rejects just so.
 -- Assumes nothing.
 use Prim.Native.Nat.{ℕ, zero, suc, _≤_, _<_}
 use mathlib.Core.List.{List, []}
@@ -8,46 +8,47 @@ use mathlib.Core.Option.{none}
 use mathlib.Core.Path.{_≡_}
 use lib.ListN.{length}
 use Rattle.model.specs.declared.Direction.{Direction}
-use Rattle.model.specs.declared.Direction.the-variants.{Forward, Backward}
 use Rattle.model.specs.Limits.{termLimit, wordLimit}
 use Rattle.model.specs.Term.{Mark, unmarked, marked, Terms, noTerms, tree, Term, one, count, Reads}
 use Rattle.model.specs.Rule.{Rule, listed}
 use Rattle.model.specs.Step.{Step}
+use Rattle.model.specs.Book.{Position, MarkAt}
 
 -- some node of a row has a mark of which P holds
 unfoldable pub Somewhere : (Mark → Type 0) → Terms → Type 0
 Somewhere P noTerms = ⊥
 Somewhere P (tree o m k s) = P m ⊎ (Somewhere P k ⊎ Somewhere P s)
 
--- a mark at all; one of a direction; one that names an unlisted rule
+-- a mark at all; one that names an unlisted rule
 abbrev pub Marks : Mark → Type 0
 Marks unmarked = ⊥
 Marks (marked d r) = Unit {0}
-
-abbrev pub Goes : Direction → Mark → Type 0
-Goes d unmarked = ⊥
-Goes d (marked e r) = d ≡ e
 
 abbrev pub Unknown : List Rule → Mark → Type 0
 Unknown rs unmarked = ⊥
 Unknown rs (marked d r) = listed rs r ≡ none
 
--- "has no mark, or marks of both directions"
-abbrev pub NotOneWay : Terms → Type 0
-NotOneWay t = (Somewhere Marks t → ⊥) ⊎ (Somewhere (Goes Forward) t × Somewhere (Goes Backward) t)
+-- two nodes have marks, whether one stands inside the other or beside it
+pub record TwoMarks (t : Terms) : Type 0 where
+  pub first : Position
+  pub second : Position
+  pub apart : first ≡ second → ⊥
+  pub way : Direction
+  pub number : ℕ
+  pub isFirst : MarkAt t first (marked way number)
+  pub way′ : Direction
+  pub number′ : ℕ
+  pub isSecond : MarkAt t second (marked way′ number′)
 
--- "a mark inside a marked subterm"
-unfoldable pub Inside : Terms → Type 0
-unfolding Somewhere
-Inside noTerms = ⊥
-Inside (tree o m k s) = ((Marks m × Somewhere Marks k) ⊎ Inside k) ⊎ Inside s
+-- 15: "has no mark, or more than one"
+abbrev pub NotOne : Terms → Type 0
+NotOne t = (Somewhere Marks t → ⊥) ⊎ TwoMarks t
 
--- "by 15, 18, 16, 17": why the term t may not come behind the term s, the condition and none before it
+-- "by 15, 16, 17": why the term t may not come behind the term s, the condition and none before it. 18 is no number of these.
 pub data LaterFault (rs : List Rule) (s t : Terms) : ℕ → Type 0 where
-  is-15 : NotOneWay t → LaterFault rs s t 15
-  is-18 : (NotOneWay t → ⊥) → Inside t → LaterFault rs s t 18
-  is-16 : (NotOneWay t → ⊥) → (Inside t → ⊥) → Somewhere (Unknown rs) t → LaterFault rs s t 16
-  is-17 : (NotOneWay t → ⊥) → (Inside t → ⊥) → (Somewhere (Unknown rs) t → ⊥) → (Step rs s t → ⊥) → LaterFault rs s t 17
+  is-15 : NotOne t → LaterFault rs s t 15
+  is-16 : (NotOne t → ⊥) → Somewhere (Unknown rs) t → LaterFault rs s t 16
+  is-17 : (NotOne t → ⊥) → (Somewhere (Unknown rs) t → ⊥) → (Step rs s t → ⊥) → LaterFault rs s t 17
 
 -- the term at a place of a row, from 0
 unfoldable pub At : Terms → ℕ → Term → Type 0

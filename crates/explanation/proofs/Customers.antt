@@ -21,13 +21,14 @@ use Rattle.model.specs.declared.Verdict.the-variants.{Accepted, Rejected}
 use Rattle.model.specs.Judged.{Judged, good, bad}
 use Rattle.model.specs.Premise.{Premise}
 use Rattle.model.specs.Query.{Tables, distanceIn, proofWords}
+use Rattle.model.specs.Book.{Rewriting}
 use Rattle.model.specs.Verdict.{Proves}
 use Rattle.model.specs.Tables.{judgeTables, measureBy, answerBy, areaOf, verdictBy}
 use Rattle.checker.proofs.Faults.{demand-1 as first-fault}
 use Rattle.explanation.specs.Demand.{FirstToHold, FirstMeasured, FirstRejected, FirstPrinted, Asked, Granted}
 use Rattle.explanation.proofs.Answers.{unmeasured-8, unmeasured-9, unmeasured-10}
 use Rattle.explanation.proofs.DemandThree.{answered, area-kept, bad-tables, demand-3 as grants, refused-10, refused-11, refused-8, refused-9, refused-zero}
-use Rattle.explanation.proofs.DemandTwo.{demand-2 as strict}
+use Rattle.explanation.proofs.DemandTwo.{demand-2 as strict, demand-2-book as in-the-book}
 use Rattle.text.proofs.term_text.Reads as term-text
 use Rattle.explanation.proofs.Texts.{first-printed}
 use Rattle.explanation.proofs.distance.Reads as distance
@@ -113,6 +114,15 @@ pub demand-2 : (κs : Lfts 4) (a s : _) (v : Verdict) → check.Post κs a v s �
 demand-2 κs a s v p t e n =
     subst (λ (x : Verdict). (x ≡ Accepted n) ↔ Proves (t .rules) (now (a .1 .1 .1 .0)) n) (sym p)
     (strict (now (a .0)) (now (a .1 .0)) (now (a .1 .1 .0)) t e (now (a .1 .1 .1 .0)) n)
+
+-- and, in the words of Baader and Nipkow, exactly where they are a chain of n - 1 rewrites by listed rules, one a later term, each read off
+-- its term's one mark
+pub demand-2-book : (κs : Lfts 4) (a s : _) (v : Verdict) → check.Post κs a v s → (t : Tables) →
+    judgeTables (now (a .0)) (now (a .1 .0)) (now (a .1 .1 .0)) ≡ good t → (n : ℕ) →
+    (v ≡ Accepted n) ↔ Rewriting (t .rules) (now (a .1 .1 .1 .0)) n
+demand-2-book κs a s v p t e n =
+    subst (λ (x : Verdict). (x ≡ Accepted n) ↔ Rewriting (t .rules) (now (a .1 .1 .1 .0)) n) (sym p)
+    (in-the-book (now (a .0)) (now (a .1 .0)) (now (a .1 .1 .0)) t e (now (a .1 .1 .1 .0)) n)
 
 -- DEMAND 3 of `query`: what is granted, of the result and of the lent area
 pub demand-3 : (κs : Lfts 4) (a s : _) (r : Answer) → query.Post κs a r s → (t : Tables) →

@@ -9,11 +9,11 @@ use Rattle.model.specs.declared.Connection.{Connection}
 use Rattle.model.specs.declared.Direction.{Direction}
 use Rattle.model.specs.declared.Justification.{Justification}
 use Rattle.model.specs.declared.Justification.the-variants.{Rule as byRule, Congruence}
-use Rattle.model.specs.Term.{unmarked, Terms, noTerms, tree, count, join, one, strip, Narrow, size}
+use Rattle.model.specs.Term.{unmarked, Terms, noTerms, tree, count, join, one, strip, Narrow, size, markCount, marks}
 use Rattle.model.specs.Node.{Node, opOf, kidsOf, row, termOf}
 use Rattle.model.specs.Forest.{costBy}
 use Rattle.model.specs.Flat.{markFor, appended, appendedSize}
-use Rattle.flat.specs.Marks.{markCount, marks, OneMarkEach}
+use Rattle.flat.specs.Marks.{OneMarkEach}
 use Rattle.flat.specs.Ends.{lastOr, Leads}
 use Rattle.flat.specs.Nodes.{AcceptedNodes}
 use Rattle.flat.proofs.NodeTerms.{term-narrow, term-op, term-unmarked, term-size, term-is}

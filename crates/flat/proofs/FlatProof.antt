@@ -23,7 +23,7 @@ use Rattle.flat.specs.Marks.{OneMarkEach}
 use Rattle.flat.specs.Ends.{first, lastOr, last, Ends}
 use Rattle.flat.specs.Nodes.{AcceptedNodes}
 use Rattle.flat.proofs.NodeTerms.{term-unmarked, term-strip, term-size, term-narrow}
-use Rattle.flat.proofs.Marked.{no-mark}
+use Rattle.terms.proofs.Marks.{no-mark}
 use Rattle.flat.proofs.Way.{Way, way}
 use Rattle.flat.proofs.Needed.{later-size}
 use Rattle.flat.proofs.Stepping.{stepping-chain}

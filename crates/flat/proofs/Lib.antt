@@ -7,7 +7,6 @@ pub mod Appended
 pub mod Walked
 pub mod Way
 pub mod Needed
-pub mod Marked
 pub mod Stepping
 pub mod Steps
 pub mod FlatProof

@@ -11,8 +11,8 @@ use Rattle.model.specs.Forest.{cur, nxt, dist}
 use Rattle.model.specs.Flat.{appended, laterStep, later, appendedSize, laterSizeStep, laterSize}
 use Rattle.paths.specs.Hangs.{AcceptedConnections}
 use Rattle.paths.proofs.Accept.{accepted-loose}
+use Rattle.terms.proofs.Rows.{size-join}
 use Rattle.flat.specs.Nodes.{AcceptedNodes}
-use Rattle.flat.proofs.Rows.{size-join}
 use Rattle.flat.proofs.Runs.{Known}
 use Rattle.flat.proofs.Twins.{Twins, twins, twins-back}
 use Rattle.flat.proofs.Appended.{appended-size}

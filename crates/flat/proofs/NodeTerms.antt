@@ -7,12 +7,11 @@ use native.Mathlib.Omega.{arith}
 use borrow.Author.Tests.{ltb-true}
 use lib.Dec.{ltb}
 use lib.ListN.{length}
-use Rattle.model.specs.Term.{unmarked, Terms, noTerms, count, Term, put, one, strip, Narrow, size}
+use Rattle.model.specs.Term.{unmarked, Terms, noTerms, count, Term, put, one, strip, Narrow, size, marks}
 use Rattle.model.specs.Node.{Node, opOf, kidsOf, allBelow, row, termBy, termOf}
 use Rattle.model.specs.Flat.{sum, sizeBy, sizeOf}
-use Rattle.flat.specs.Marks.{marks}
+use Rattle.terms.proofs.Marks.{unmarked-strip}
 use Rattle.flat.specs.Nodes.{AcceptedNodes}
-use Rattle.flat.proofs.Rows.{unmarked-strip}
 
 -- rows made by one function of each number
 module _ (f : ℕ → Term) where

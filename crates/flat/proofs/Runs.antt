@@ -6,16 +6,17 @@ use native.Mathlib.Omega.{arith}
 use lib.ListN.{length}
 use Rattle.model.specs.declared.Connection.{Connection}
 use Rattle.model.specs.Limits.{childLimit}
-use Rattle.model.specs.Term.{unmarked, Terms, noTerms, tree, count, join, one, strip, Narrow, size}
+use Rattle.model.specs.Term.{unmarked, Terms, noTerms, tree, count, join, one, strip, Narrow, size, marks}
 use Rattle.model.specs.Node.{Node, row, termOf}
 use Rattle.model.specs.Forest.{root, sumPairs}
 use Rattle.model.specs.Flat.{within, runs, sizeOf, runsSize}
-use Rattle.terms.proofs.Rows.{join-assoc, count-join, narrow-join}
+use Rattle.terms.proofs.Rows.{join-assoc, count-join, narrow-join, size-join}
+use Rattle.terms.proofs.Marks.{marks-join}
 use Rattle.paths.specs.Hangs.{Paired}
-use Rattle.flat.specs.Marks.{marks, OneMarkEach}
+use Rattle.flat.specs.Marks.{OneMarkEach}
 use Rattle.flat.specs.Ends.{lastOr, Leads}
 use Rattle.flat.specs.Nodes.{AcceptedNodes}
-use Rattle.flat.proofs.Rows.{size-join, marks-join, one-mark-join}
+use Rattle.flat.proofs.Rows.{one-mark-join}
 use Rattle.flat.proofs.NodeTerms.{row-count, term-unmarked, term-size, term-narrow, terms-unmarked, terms-size, terms-narrow}
 use Rattle.flat.proofs.Within.{last-join, within-count, within-size, within-narrow, within-one-mark, within-arrives}
 

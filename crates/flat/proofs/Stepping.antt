@@ -6,14 +6,13 @@ use mathlib.Core.List.{List}
 use native.Mathlib.Omega.{arith}
 use Rattle.model.specs.declared.Direction.{Direction}
 use Rattle.model.specs.declared.Direction.the-variants.{Forward, Backward}
-use Rattle.model.specs.Term.{Mark, unmarked, marked, Terms, noTerms, tree, join, strip}
+use Rattle.model.specs.Term.{Mark, unmarked, marked, Terms, noTerms, tree, join, strip, marks}
 use Rattle.model.specs.Rule.{Rule}
 use Rattle.model.specs.Step.{ByRule, Allowed, Step}
 use Rattle.model.specs.Verdict.{Later, Chain}
 use Rattle.model.specs.Flat.{within}
-use Rattle.flat.specs.Marks.{marks, OneMarkEach}
+use Rattle.flat.specs.Marks.{OneMarkEach}
 use Rattle.flat.specs.Ends.{lastOr}
-use Rattle.flat.proofs.Marked.{well-marked}
 
 module _ (rs : List Rule) where
   by-rule-alike : (n : ℕ) (s s′ t t′ : Terms) → strip s ≡ strip s′ → strip t ≡ strip t′ → ByRule rs n s t → ByRule rs n s′ t′
@@ -100,6 +99,5 @@ module _ (rs : List Rule) where
   unfolding Stepping Chain OneMarkEach
   stepping-chain s noTerms e h = tt
   stepping-chain s (tree o m k f) e h =
-      let w = well-marked (tree o m k noTerms) (e .0) in
-      let here : Later rs s (tree o m k noTerms) = record { someMarks = w .someMarks; oneWay = w .oneWay; apart = w .apart; arises = h .0 } in
+      let here : Later rs s (tree o m k noTerms) = record { oneMark = e .0; arises = h .0 } in
       (here, stepping-chain (tree o m k noTerms) f (e .1) (h .1))

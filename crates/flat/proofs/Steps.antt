@@ -10,7 +10,7 @@ use Rattle.model.specs.declared.Direction.the-variants.{Forward, Backward}
 use Rattle.model.specs.declared.Justification.{Justification}
 use Rattle.model.specs.declared.Justification.the-variants.{Rule as byRule, Congruence}
 use Rattle.model.specs.declared.RuleNo.{RuleNo}
-use Rattle.model.specs.Term.{Mark, unmarked, marked, Terms, noTerms, tree, join, one, strip}
+use Rattle.model.specs.Term.{Mark, unmarked, marked, Terms, noTerms, tree, join, one, strip, marks}
 use Rattle.model.specs.Rule.{Rule}
 use Rattle.model.specs.Step.{Allowed, Step}
 use Rattle.model.specs.Node.{Node, opOf, kidsOf, row, termOf}
@@ -19,7 +19,6 @@ use Rattle.model.specs.Premise.{InstanceBy, Premise}
 use Rattle.model.specs.Flat.{turned, markFor, markedTerm, within, runs, appended, laterStep, later}
 use Rattle.paths.specs.Hangs.{AcceptedConnections, Paired}
 use Rattle.paths.proofs.Accept.{accepted-loose}
-use Rattle.flat.specs.Marks.{marks}
 use Rattle.flat.specs.Ends.{lastOr, Leads}
 use Rattle.flat.specs.Nodes.{AcceptedNodes}
 use Rattle.flat.proofs.NodeTerms.{term-op, terms-unmarked, term-is}

@@ -17,8 +17,8 @@ use Rattle.paths.proofs.Joined.{dist-sym}
 use Rattle.flat.specs.Marks.{OneMarkEach}
 use Rattle.flat.specs.Ends.{lastOr, Leads}
 use Rattle.flat.specs.Nodes.{AcceptedNodes}
-use Rattle.terms.proofs.Rows.{count-join, narrow-join}
-use Rattle.flat.proofs.Rows.{count-none, one-mark-join}
+use Rattle.terms.proofs.Rows.{count-join, narrow-join, count-none}
+use Rattle.flat.proofs.Rows.{one-mark-join}
 use Rattle.flat.proofs.Within.{leads-join}
 use Rattle.flat.proofs.Runs.{Known}
 use Rattle.flat.proofs.Twins.{Twins, twins, twins-back}

@@ -4,14 +4,14 @@ use Prim.Native.Nat.{ℕ, suc, _+_, _*_, _≤_}
 use mathlib.Core.Path.{_≡_, refl, sym, ap, ap₂, _∙_}
 use mathlib.Core.List.{List}
 use native.Mathlib.Omega.{arith}
-use Rattle.model.specs.Term.{unmarked, Terms, noTerms, tree, one, count, join, strip, Narrow, size}
+use Rattle.model.specs.Term.{unmarked, Terms, noTerms, tree, one, count, join, strip, Narrow, size, marks}
 use Rattle.model.specs.Limits.{childLimit}
 use Rattle.model.specs.Node.{Node, termOf}
 use Rattle.model.specs.Flat.{within}
-use Rattle.flat.specs.Marks.{marks, OneMarkEach}
+use Rattle.flat.specs.Marks.{OneMarkEach}
 use Rattle.flat.specs.Ends.{lastOr, Leads}
-use Rattle.terms.proofs.Rows.{count-join, narrow-join, strip-join}
-use Rattle.flat.proofs.Rows.{size-join, marks-join, unmarked-strip}
+use Rattle.terms.proofs.Rows.{count-join, narrow-join, strip-join, size-join}
+use Rattle.terms.proofs.Marks.{marks-join, unmarked-strip}
 
 -- the last term of two rows, of rows that are alike but for marks
 pub last-join : (t f g : Terms) → lastOr t (join f g) ≡ lastOr (lastOr t f) g

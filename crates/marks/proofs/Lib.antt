@@ -1,4 +1,5 @@
 pub mod Remaining
-pub mod Seen
-pub mod Nest
+pub mod First
+pub mod Walk
+pub mod Single
 pub mod Only

@@ -1,51 +1,34 @@
-// Marks in flat terms: which directions stand in a row of terms (14, 15), and whether a mark stands inside a marked subterm (18).
-// Terms are walked flat, by a pending count: how many terms are still to be read.
+// Marks in flat terms: a row is walked in preorder to its first mark (14), and a term to its second, so that one pass tells whether it
+// has exactly one mark (15), where that stands and where the term ends. Terms are walked flat, by a pending count: how many terms are
+// still to be read.
 use model::FLAT_WORDS;
 ghost use mathlib.Core.Path.{_≡_};
 ghost use Rattle.terms.specs.Place.{Well};
-ghost use Rattle.marks.specs.Marks.{HasRow, withWord, DirectionsAre, MarkedIs, NestedIs};
+ghost use Rattle.marks.specs.Marks.{HasRow, RestIs, MarkedIs, OneIs};
 
-// Which directions the marks of a row of terms have.
-pub struct Directions {
-    pub forward: bool,
-    pub backward: bool,
+// A row of terms from its first mark on: behind how many nodes it stands, and how many terms are still to be read there. None are
+// where the row has no mark.
+pub struct Rest {
+    pub nodes: usize,
+    pub pending: usize,
 }
 
-// The directions seen so far, with one more mark word.
-fn with_mark(m: Directions, mark: u16) -> Directions
-    ensures { λ r. ⌜ r ≡ withWord m mark ⌝ }
-{
-    match mark {
-        1 => Directions {
-            forward: true,
-            backward: m.backward,
-        },
-        2 => Directions {
-            forward: m.forward,
-            backward: true,
-        },
-        _ => m,
-    }
-}
-
-// The directions of the marks of a row of `count` terms at `at`.
-pub fn directions_in(words: &[u16], at: usize, count: usize) -> Directions
+// The row of `count` terms at `at` from its first mark on.
+fn to_mark(words: &[u16], at: usize, count: usize) -> Rest
     requires { ⌜ HasRow (now words) at count ⌝ }
-    ensures { λ r. ⌜ DirectionsAre (now (words .entry)) at count r ⌝ }
+    ensures { λ r. ⌜ RestIs (now (words .entry)) at count r ⌝ }
 {
-    let mut seen = Directions {
-        forward: false,
-        backward: false,
-    };
-    let mut pos = at;
+    let mut nodes: usize = 0;
     let mut pending = count;
     while 0 < pending {
-        let n = terms::node_at(words, pos);
-        seen = with_mark(seen, n.mark);
+        let n = terms::node_at(words, at + FLAT_WORDS * nodes);
+        if n.mark != 0 {
+            return Rest { nodes, pending };
+        }
         pending = pending - 1 + model::wide(n.count);
-        pos += FLAT_WORDS;
+        nodes += 1;
     }
-    seen
+    Rest { nodes, pending }
 }
 
 // Whether a row of `count` terms at `at` holds a mark at all.
@@ -53,33 +36,37 @@ pub fn marked(words: &[u16], at: usize, count: usize) -> bool
     requires { ⌜ HasRow (now words) at count ⌝ }
     ensures { λ r. ⌜ MarkedIs (now (words .entry)) at count r ⌝ }
 {
-    let m = directions_in(words, at, count);
-    if m.forward {
-        return true;
+    let rest = to_mark(words, at, count);
+    if rest.pending == 0 {
+        return false;
     }
-    m.backward
+    true
 }
 
-// Whether a mark stands inside a marked subterm of the term at `at`.
-pub fn nested_in(words: &[u16], at: usize) -> bool
+// The one mark of a term: behind how many of its nodes it stands, and where the term ends. Or the term has none, or more than one.
+pub enum OneMark {
+    Behind { nodes: usize, end: usize },
+    Not,
+}
+
+// Whether the term at `at` has exactly one mark. The walk ends at the second.
+pub fn one_mark(words: &[u16], at: usize) -> OneMark
     requires { ⌜ Well (now words) at ⌝ }
-    ensures { λ r. ⌜ NestedIs (now (words .entry)) at r ⌝ }
+    ensures { λ r. ⌜ OneIs (now (words .entry)) at r ⌝ }
 {
-    let mut pos = at;
-    let mut pending: usize = 1;
-    while 0 < pending {
-        let n = terms::node_at(words, pos);
-        let kids = model::wide(n.count);
-        if n.mark == 0 {
-            pending = pending - 1 + kids;
-            pos += FLAT_WORDS;
-        } else {
-            if marked(words, pos + FLAT_WORDS, kids) {
-                return true;
-            }
-            pending -= 1;
-            pos = terms::end_of(words, pos);
-        }
+    let first = to_mark(words, at, 1);
+    if first.pending == 0 {
+        return OneMark::Not;
     }
-    false
+    let place = at + FLAT_WORDS * first.nodes;
+    let n = terms::node_at(words, place);
+    let below = place + FLAT_WORDS;
+    let behind = to_mark(words, below, first.pending - 1 + model::wide(n.count));
+    if behind.pending != 0 {
+        return OneMark::Not;
+    }
+    OneMark::Behind {
+        nodes: first.nodes,
+        end: below + FLAT_WORDS * behind.nodes,
+    }
 }

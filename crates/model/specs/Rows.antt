@@ -1,6 +1,6 @@
 -- Document 01's P rows, computed: one list of inputs with the outputs they must give, and one claim.
 -- Behind P1 to P12 stand rows for the errors that look right (E1 to E5), the end of the input (E6, E7), a run that goes on (E8),
--- directions and congruences (E9 to E11), lines and frames (F1 to F6), tables (T1 to T4) and the checker's other refusals (C1 to C8).
+-- directions and congruences (E9 to E11), lines and frames (F1 to F6), tables (T1 to T4) and the checker's other refusals (C1 to C10).
 -- Claims.antt has what no line of input shows: limits, areas, rooms and reports.
 use Prim.Native.String.{String, _++_}
 use mathlib.Core.List.{List, [], _∷_, map}
@@ -31,6 +31,10 @@ first = "05000301000000000100000000\n"
 
 abbrev second : String
 second = "05000301000000000200010007\n"
+
+-- the offered term (o5 o1 o1)
+abbrev pair : String
+pair = "05000502000000" ++ "000100000000" ++ "000100000000\n"
 
 -- r9 makes (o5 ?0 ?0) to ?0, and r10 makes (o5 ?0 ?1) to ?0
 abbrev r9 : String
@@ -199,16 +203,21 @@ rows =
           r7 ++ "05000502000000" ++ "000100000000" ++ "000200000000\n" ++ "05000502000000" ++ "000200010007" ++ "000100020007\n" ++ "06\n";
       expected = "rejected 15 term 1\n";
     }
-    -- C6 two marks of one direction side by side
+    -- C6 two marks of one direction side by side: 15; the same in two steps
+    ∷ record { input = r7 ++ pair ++ "05000502000000" ++ "000200010007" ++ "000200010007\n" ++ "06\n"; expected = "rejected 15 term 1\n" }
     ∷ record {
       input =
-          r7 ++ "05000502000000" ++ "000100000000" ++ "000100000000\n" ++ "05000502000000" ++ "000200010007" ++ "000200010007\n" ++ "06\n";
-      expected = "accepted 2\n";
+          r7 ++ pair ++ "05000502000000" ++ "000200010007" ++ "000100000000\n" ++ "05000502000000" ++ "000200000000" ++ "000200010007\n" ++ "06\n";
+      expected = "accepted 3\n";
     }
-    -- C7 a mark inside a marked subterm: 18
-    ∷ record { input = r7 ++ first ++ "05000301010007" ++ "000200010007\n" ++ "06\n"; expected = "rejected 18 term 1\n" }
+    -- C7 a mark inside a marked subterm: 15
+    ∷ record { input = r7 ++ first ++ "05000301010007" ++ "000200010007\n" ++ "06\n"; expected = "rejected 15 term 1\n" }
     -- C8 the place of the first bad term
     ∷ record { input = tableLines ++ first ++ second ++ first ++ "06\n"; expected = "rejected 15 term 2\n" }
+    -- C9 15 before 16 and 17: the second mark names an unlisted rule, and o1 is no instance of it
+    ∷ record { input = r7 ++ pair ++ "05000502000000" ++ "000200010007" ++ "000100010008\n" ++ "06\n"; expected = "rejected 15 term 1\n" }
+    -- C10 16 before 17: nothing of the step is right
+    ∷ record { input = r7 ++ first ++ "05000401000000" ++ "000100010008\n" ++ "06\n"; expected = "rejected 16 term 1\n" }
     ∷ []
 
 claim : map (λ r. output (bytes (r .input))) rows ≡ map (λ r. bytes (r .expected)) rows

@@ -1,4 +1,4 @@
--- The step that the checker wants: rewriting by substitution (Baader and Nipkow), at several places side by side.
+-- The step that the checker wants: rewriting by substitution (Baader and Nipkow) where the later term is marked.
 use Prim.Native.Nat.{ℕ}
 use mathlib.Core.List.{List}
 use mathlib.Core.Bool.{Bool, true, false, not, _&&_, _||_}
@@ -6,7 +6,7 @@ use mathlib.Core.Option.{Option, none, some}
 use mathlib.Core.Path.{_≡_}
 use Rattle.model.specs.declared.Direction.{Direction}
 use Rattle.model.specs.declared.Direction.the-variants.{Forward, Backward}
-use Rattle.model.specs.Term.{Mark, unmarked, marked, Terms, noTerms, tree, sameOp, sameDirection}
+use Rattle.model.specs.Term.{Mark, unmarked, marked, Terms, noTerms, tree, sameOp}
 use Rattle.model.specs.Pattern.{Instance, fits}
 use Rattle.model.specs.Rule.{Rule, listed, isListed}
 
@@ -59,11 +59,7 @@ step rs (tree o m k s) (tree o′ unmarked k′ s′) = sameOp o o′ && (step r
 step rs (tree o m k s) (tree o′ (marked d n) k′ s′) =
     allowed rs (marked d n) (tree o m k noTerms) (tree o′ (marked d n) k′ noTerms) && step rs s s′
 
--- Which marks a row holds: any of the direction asked for, and any at all.
-abbrev pub goes : Direction → Mark → Bool
-goes d unmarked = false
-goes d (marked e n) = sameDirection d e
-
+-- whether a row has a mark of which p holds, and whether it has any
 unfoldable pub someMark : (Mark → Bool) → Terms → Bool
 someMark p noTerms = false
 someMark p (tree o m k s) = p m || (someMark p k || someMark p s)
@@ -71,16 +67,6 @@ someMark p (tree o m k s) = p m || (someMark p k || someMark p s)
 abbrev pub isMark : Mark → Bool
 isMark unmarked = false
 isMark (marked d n) = true
-
--- "a mark inside a marked subterm"
-abbrev pub nestedIn : Mark → Terms → Bool → Bool
-nestedIn unmarked k b = b
-nestedIn (marked d n) k b = someMark isMark k
-
-unfoldable pub nested : Terms → Bool
-unfolding someMark
-nested noTerms = false
-nested (tree o m k s) = nestedIn m k (nested k) || nested s
 
 -- "a mark names an unlisted rule"
 abbrev pub namesUnlisted : List Rule → Mark → Bool

@@ -77,6 +77,15 @@ unfoldable pub size : Terms → ℕ
 size noTerms = 0
 size (tree o m k s) = suc (size k + size s)
 
+-- how many marks a row has
+abbrev pub markCount : Mark → ℕ
+markCount unmarked = 0
+markCount (marked d n) = 1
+
+unfoldable pub marks : Terms → ℕ
+marks noTerms = 0
+marks (tree o m k s) = markCount m + (marks k + marks s)
+
 -- What words say, declaratively: the row whose words they are. `read` finds it, and 13 is given where there is none.
 pub record Reads (ws : List ℕ) (f : Terms) : Type 0 where
   pub narrow : Narrow f

@@ -1,25 +1,22 @@
 -- What the strict checker says of words, over accepted rules: declaratively, and computed in document 01's order.
 use Prim.Native.Nat.{ℕ, suc, _≤_}
 use mathlib.Core.List.{List}
-use mathlib.Core.Bool.{Bool, true, false, not, _&&_, _||_}
+use mathlib.Core.Bool.{Bool, true, false, not}
 use mathlib.Core.Option.{Option, none, some}
 use mathlib.Core.Path.{_≡_}
-use lib.Dec.{ltb}
+use lib.Dec.{eqb, ltb}
 use lib.ListN.{length}
-use Rattle.model.specs.declared.Direction.the-variants.{Forward, Backward}
 use Rattle.model.specs.declared.Verdict.{Verdict}
 use Rattle.model.specs.declared.Verdict.the-variants.{Accepted, Rejected}
 use Rattle.model.specs.Limits.{termLimit, wordLimit}
-use Rattle.model.specs.Term.{Terms, noTerms, tree, count, read, Reads}
+use Rattle.model.specs.Term.{Terms, noTerms, tree, count, marks, read, Reads}
 use Rattle.model.specs.Rule.{Rule}
-use Rattle.model.specs.Step.{Step, step, someMark, isMark, goes, nested, unlisted}
+use Rattle.model.specs.Step.{Step, step, someMark, isMark, unlisted}
 
--- "each later term arises from the one before by instances of listed rules at its marked places (one or more, none inside
--- another, all in one marked direction) and is the same elsewhere"
+-- "each later term arises from the one before by an instance of a listed rule at its marked place (exactly one) and is the same elsewhere".
+-- `checker/proofs/Book.antt` `later-book`: that is one rewrite of the book's, at the mark's place, by the rule that it names.
 pub record Later (rs : List Rule) (s t : Terms) : Type 0 where
-  pub someMarks : someMark isMark t ≡ true
-  pub oneWay : (someMark (goes Forward) t && someMark (goes Backward) t) ≡ false
-  pub apart : nested t ≡ false
+  pub oneMark : marks t ≡ 1
   pub arises : Step rs s t
 
 unfoldable pub Chain : List Rule → Terms → Terms → Type 0
@@ -46,14 +43,13 @@ abbrev pub rejectIf : Bool → ℕ → ℕ → Verdict → Verdict
 rejectIf true n k v = Rejected n k
 rejectIf false n k v = v
 
--- "then each later term in order by 15, 18, 16, 17": the term at place k, behind the term s, and what comes behind it
+-- "then each later term in order by 15, 16, 17": the term at place k, behind the term s, and what comes behind it. 18 is nobody's number.
 unfoldable pub laterVerdict : List Rule → ℕ → Terms → Terms → Verdict → Verdict
-unfolding step someMark nested unlisted
+unfolding step marks unlisted
 laterVerdict rs k s t v =
-    rejectIf (not (someMark isMark t) || (someMark (goes Forward) t && someMark (goes Backward) t)) 15 k
-    (rejectIf (nested t) 18 k
+    rejectIf (not (eqb (marks t) 1)) 15 k
     (rejectIf (unlisted rs t) 16 k
-    (rejectIf (not (step rs s t)) 17 k v)))
+    (rejectIf (not (step rs s t)) 17 k v))
 
 unfoldable pub chainVerdict : List Rule → ℕ → Terms → Terms → Verdict
 unfolding laterVerdict

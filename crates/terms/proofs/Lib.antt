@@ -1,8 +1,10 @@
 pub mod Rows
+pub mod Marks
 pub mod Read
 pub mod Same
 pub mod Walk
 pub mod Place
 pub mod SameWalk
+pub mod SameNodes
 pub mod Counted
 pub mod Only

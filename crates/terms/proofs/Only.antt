@@ -11,6 +11,7 @@ use Rattle.terms.proofs.node_at.Reads as node-at
 use Rattle.terms.proofs.same_head.Reads as same-head
 use Rattle.terms.proofs.end_of.Reads as end-of
 use Rattle.terms.proofs.same_term.Reads as same-term
+use Rattle.terms.proofs.same_nodes.Reads as same-nodes
 use Rattle.terms.proofs.whole_terms.Reads as whole-terms
 
 node-at-only : (κs : Lfts 1) (a s s′ : _) (r r′ : TreeNode) → node-at.Post κs a r s → node-at.Post κs a r′ s′ → r ≡ r′
@@ -31,6 +32,9 @@ one-answer false true P a b = absurd (a b)
 
 same-term-only : (κs : Lfts 1) (a s s′ : _) (r r′ : Bool) → same-term.Pre κs a → same-term.Post κs a r s → same-term.Post κs a r′ s′ → r ≡ r′
 same-term-only κs a s s′ r r′ w p q = one-answer r r′ _ (p _ _ _ _ (w .0 .is) (w .1 .is)) (q _ _ _ _ (w .0 .is) (w .1 .is))
+
+same-nodes-only : (κs : Lfts 1) (a s s′ : _) (r r′ : Bool) → same-nodes.Post κs a r s → same-nodes.Post κs a r′ s′ → r ≡ r′
+same-nodes-only κs a s s′ r r′ p q = p ∙ sym q
 
 whole-terms-only : (κs : Lfts 1) (a s s′ : _) (r r′ : WholeTerms) → whole-terms.Post κs a r s → whole-terms.Post κs a r′ s′ → r ≡ r′
 whole-terms-only κs a s s′ r r′ p q = p ∙ sym q

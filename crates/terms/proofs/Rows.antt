@@ -14,6 +14,16 @@ unfolding join count
 count-join noTerms s = rw zero-add
 count-join (tree o m k r) s = rw (suc-add, count-join r s)
 
+pub count-none : (f : Terms) → count f ≡ 0 → f ≡ noTerms
+unfolding count
+count-none noTerms h = refl
+count-none (tree o m k s) h = absurd (omega arith)
+
+pub size-join : (f g : Terms) → size (join f g) ≡ size f + size g
+unfolding size join
+size-join noTerms g = omega arith
+size-join (tree o m k s) g = omega (arith, size-join s g)
+
 pub words-join : (k s : Terms) → words (join k s) ≡ words k ++ words s
 unfolding join words
 words-join noTerms s = refl

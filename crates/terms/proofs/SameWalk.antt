@@ -12,7 +12,7 @@ use lib.ListN.{length}
 use Rattle.model.specs.Limits.{flatWords}
 use Rattle.model.specs.Term.{Terms, noTerms, tree, Term, one, count, join, strip, stripped, sameOp}
 use Rattle.terms.specs.declared.TreeNode.{TreeNode}
-use Rattle.terms.specs.Place.{nodeOf, sameHead, TermAt, RowAt, Well, SameIs}
+use Rattle.terms.specs.Place.{nodeOf, sameHead, sameAt, TermAt, RowAt, Well, SameIs}
 use Rattle.terms.proofs.Rows.{strip-join, count-strip, join-inj, strip-one}
 use Rattle.terms.proofs.Place.{row-tree, row-room, row-fits, term-row}
 
@@ -28,10 +28,6 @@ heads n o c e =
 
 pub heads-same : (n : TreeNode) (o c : ℕ) → Heads n o c → sameHead n o c ≡ true
 heads-same n o c h = rw (eq-eqb _ _ (h .op), eq-eqb _ _ (h .count))
-
--- the nodes at two places
-abbrev pub sameAt : List ℕ → ℕ → ℕ → Bool
-sameAt ws i j = sameHead (nodeOf ws i) (nodeOf ws j .op .0) (nodeOf ws j .count)
 
 -- what is left of the terms t and u, n rows from i and from j on
 record TwoRests (ws : List ℕ) (i j n : ℕ) (t u : Term) : Type 0 where

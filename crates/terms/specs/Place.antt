@@ -1,6 +1,6 @@
 -- What stands at a place of the words: a node, a term, a row of terms.
 -- Assumes nothing.
-use Prim.Native.Nat.{ℕ, _+_, _≤_}
+use Prim.Native.Nat.{ℕ, zero, suc, _+_, _≤_}
 use mathlib.Core.List.{List, _++_}
 use mathlib.Core.Bool.{Bool, true, false, _&&_}
 use mathlib.Core.Option.{Option, none, some}
@@ -8,7 +8,7 @@ use mathlib.Core.Path.{_≡_}
 use lib.ListN.{length, getD, drop}
 use lib.Seq.{slice}
 use lib.Dec.{leb, eqb}
-use Rattle.model.specs.Limits.{childLimit}
+use Rattle.model.specs.Limits.{childLimit, flatWords}
 use Rattle.model.specs.Term.{Mark, Terms, Term, count, one, stripped, Narrow, words, markOf, sameOp}
 use Rattle.terms.specs.declared.TreeNode.{TreeNode}
 use Rattle.terms.specs.declared.TermEnd.{TermEnd}
@@ -37,6 +37,14 @@ okNode n = okWords (n .count) (n .mark) (n .rule .0)
 -- "operator and count agree"
 abbrev pub sameHead : TreeNode → ℕ → ℕ → Bool
 sameHead n o c = sameOp (n .op .0) o && eqb (n .count) c
+
+-- the nodes at two places agree so; and so many from two places on
+abbrev pub sameAt : List ℕ → ℕ → ℕ → Bool
+sameAt ws i j = sameHead (nodeOf ws i) (nodeOf ws j .op .0) (nodeOf ws j .count)
+
+unfoldable pub sameNodes : List ℕ → ℕ → ℕ → ℕ → Bool
+sameNodes ws i j zero = true
+sameNodes ws i j (suc n) = sameAt ws i j && sameNodes ws (i + flatWords) (j + flatWords) n
 
 -- the words from `at` up to e are those of the one term t
 pub record TermAt (ws : List ℕ) (at e : ℕ) (t : Term) : Type 0 where

@@ -7,11 +7,11 @@ use model::RuleNo;
 use model::same_op;
 use model::wide;
 ghost use mathlib.Core.Path.{_≡_};
-ghost use Prim.Native.Nat.{_+_, _≤_};
+ghost use Prim.Native.Nat.{_+_, _*_, _≤_};
 ghost use lib.ListN.{length};
 ghost use Rattle.model.specs.Limits.{flatWords};
 ghost use Rattle.model.specs.Term.{read};
-ghost use Rattle.terms.specs.Place.{nodeOf, okNode, sameHead, Well, EndIs, EndsAt, SameIs};
+ghost use Rattle.terms.specs.Place.{nodeOf, okNode, sameHead, sameNodes, Well, EndIs, EndsAt, SameIs};
 ghost use Rattle.terms.specs.Whole.{wholeOf};
 
 // A node's four words.
@@ -126,6 +126,28 @@ pub fn same_term(words: &[u16], a: usize, b: usize) -> bool
         pending = pending - 1 + wide(x.count);
         i += FLAT_WORDS;
         j += FLAT_WORDS;
+    }
+    true
+}
+
+// Whether `count` nodes from `i` on agree with as many from `j` on, their marks aside.
+pub fn same_nodes(words: &[u16], i: usize, j: usize, count: usize) -> bool
+    requires { ⌜ i + flatWords * count ≤ length (now words) ⌝ }
+    requires { ⌜ j + flatWords * count ≤ length (now words) ⌝ }
+    ensures { λ r. ⌜ r ≡ sameNodes (now (words .entry)) i j count ⌝ }
+{
+    let mut a = i;
+    let mut b = j;
+    let mut left = count;
+    while 0 < left {
+        let x = node_at(words, a);
+        let y = node_at(words, b);
+        if !same_head(x, y.op, y.count) {
+            return false;
+        }
+        a += FLAT_WORDS;
+        b += FLAT_WORDS;
+        left -= 1;
     }
     true
 }

@@ -9,7 +9,7 @@ use Rattle.model.specs.Limits.{flatWords}
 use Rattle.model.specs.Term.{Terms, noTerms, tree, one, strip, words}
 use Rattle.model.specs.Node.{Node, row, termOf}
 use Rattle.terms.proofs.Rows.{count-strip, length-words}
-use Rattle.flat.proofs.Rows.{unmarked-strip}
+use Rattle.terms.proofs.Marks.{unmarked-strip}
 use Rattle.flat.proofs.NodeTerms.{term-strip, terms-unmarked}
 use Rattle.laws.specs.Area.{part}
 use Rattle.trees.specs.Area.{WholeNodes, bare}

@@ -1,7 +1,7 @@
 //! The typed layer: refusals, flat terms, texts.
 use erbighenti::flat::TEXT_BYTES;
 use erbighenti::{
-    term_text, Direction, Item, Justification, Node, Operator, Pattern, Proof, Refusal, Rule, TableBuilder, Tables, Term, Terms,
+    term_text, Direction, Item, Justification, Node, Operator, Pattern, Proof, Refusal, Rejection, Rule, TableBuilder, Tables, Term, Terms,
 };
 use std::collections::BTreeSet;
 
@@ -9,13 +9,14 @@ const PROOF: [u16; 16] = [3, 1, 0, 0, 1, 0, 0, 0, 3, 1, 0, 0, 2, 0, 1, 7];
 
 #[test]
 fn refusals_have_their_numbers() {
-    for (at, refusal) in Refusal::ALL.into_iter().enumerate() {
-        assert_eq!(usize::from(refusal.number()), at + 1);
+    // all from 1 to 19 but 18, which is nobody's
+    assert_eq!(Refusal::ALL.map(Refusal::number).to_vec(), (1..=17).chain([19]).collect::<Vec<u16>>());
+    for refusal in Refusal::ALL {
         assert_eq!(Refusal::of_number(refusal.number()), Some(refusal));
-        assert_eq!(refusal.to_string(), format!("refused by {}: {}", at + 1, refusal.words()));
+        assert_eq!(refusal.to_string(), format!("refused by {}: {}", refusal.number(), refusal.words()));
     }
-    assert_eq!(Refusal::ALL.map(Refusal::words).into_iter().collect::<BTreeSet<_>>().len(), 19);
-    assert_eq!((Refusal::of_number(0), Refusal::of_number(20)), (None, None));
+    assert_eq!(Refusal::ALL.map(Refusal::words).into_iter().collect::<BTreeSet<_>>().len(), Refusal::ALL.len());
+    assert_eq!([0, 18, 20].map(Refusal::of_number), [None; 3]);
 }
 
 #[test]
@@ -86,6 +87,22 @@ fn words_that_are_no_terms_are_refused() {
     assert_eq!(Terms::of(&broad(8)).map(Iterator::count), Ok(1));
     assert_eq!(Terms::of(&broad(9)).map(Iterator::count), Err(Refusal::NoTerms));
     assert_eq!(Proof::offered(PROOF.to_vec()).unwrap().text(), "(o3 o1)\n(o3 (Rewrite=> r7 o2))\n");
+}
+
+/// Two marks in one term are refused, and so is none; the same rewriting in two steps is accepted.
+#[test]
+fn a_later_term_has_one_mark() {
+    let leaf = |operator| Pattern::operator(Operator(operator), &[]);
+    let mut made = TableBuilder::new();
+    made.rule(Rule(7), &leaf(1), &leaf(2)).unwrap();
+    let over = |left: [u16; 4], right: [u16; 4]| [[5, 2, 0, 0], left, right].concat();
+    let (old, new, marked) = ([1, 0, 0, 0], [2, 0, 0, 0], [2, 0, 1, 7]);
+    let checked = |terms: &[Vec<u16>]| Proof::offered(terms.concat()).unwrap().check(made.tables());
+    let refused = Err(Rejection { refusal: Refusal::Marks, place: 1 });
+    assert_eq!(checked(&[over(old, old), over(marked, marked)]), refused);
+    assert_eq!(checked(&[over(old, old), over(old, old)]), refused);
+    assert_eq!(checked(&[over(old, old), over(marked, old), over(new, marked)]), Ok(3));
+    assert_eq!(refused.unwrap_err().to_string(), "rejected 15 term 1: a later term does not have exactly one mark");
 }
 
 /// The longest text that nodes can have fits into the room that `Term::text` takes.

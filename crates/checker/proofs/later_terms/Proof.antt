@@ -2,12 +2,14 @@
 -- terms. The measure is how many terms are left. Assumes nothing.
 use native.Mathlib.Omega.{arith}
 use Prim.Native.Nat.{ℕ, zero, suc, _-_, _<_}
+use borrow.Author.Needs.{needs}
 use mathlib.Core.List.{List}
-use mathlib.Core.Path.{subst}
+use mathlib.Core.Path.{_≡_, subst}
 use Rattle.terms.specs.Place.{Well}
 use Rattle.terms.proofs.Place.{row-well}
 use Rattle.marks.specs.Marks.{HasRow}
-use Rattle.checker.specs.Check.{FaultIs}
+use Rattle.checker.specs.declared.Following.{Following}
+use Rattle.checker.specs.Check.{FollowsIs}
 use Rattle.checker.proofs.Later.{LaterHere, later-first, later-next, later-found, later-done, later-before, later-at}
 use Rattle.checker.proofs.later_terms.Statement.{statement}
 use Rattle.checker.proofs.later_terms.Tie as tie
@@ -50,34 +52,43 @@ later-fault-requires c κs =
       ),
     )
 
-returns : tie.Need-returns Inv-loop μ-loop
-returns c =
-    let d = c .before in
-    let l = at-loop d .loop in
-    let a = at-start (at-loop d) .args in
-    later-found (a .rules .now) (a .words .now) (a .n) (l .before) (l .at) (l .k) (l .inv) (omega arith) (d .later-fault .result) (c .if1 .taken) (d .later-fault .ensures)
+enum-known-judged : tie.Need-enum-known-judged Inv-loop μ-loop
+enum-known-judged c = search needs
 
-end-of-requires-2 : tie.Need-end-of-requires-2 Inv-loop μ-loop
-end-of-requires-2 c κs =
-    let at = at-loop (c .before) in
-    let l = at .loop in
-    let s = at-start at in
-    let a = s .args in
-    later-at (a .rules .now) (a .words .now) (a .n) (l .before) (l .at) (l .k) (l .inv) (s .pre .0) (s .pre .1 .0) (omega arith)
+enum-known-judged-2 : tie.Need-enum-known-judged-2 Inv-loop μ-loop
+enum-known-judged-2 c = search needs
+
+-- what was found of the term
+judged : (c : tie.After-later-fault Inv-loop μ-loop) (r : Following) → c .later-fault .result ≡ r → let at = at-loop c in let a = at-start at .args in
+    FollowsIs (a .rules .now) (a .words .now) (at .loop .before) (at .loop .at) r
+judged c r e =
+    let at = at-loop c in
+    let a = at-start at .args in
+    subst (FollowsIs (a .rules .now) (a .words .now) (at .loop .before) (at .loop .at)) e (c .later-fault .ensures)
 
 add-k : tie.Need-add-k Inv-loop μ-loop
-add-k c = omega (arith, at-start (at-loop (c .before .before)) .fits .n)
+add-k c = omega (arith, at-start (at-loop (c .before .before .before)) .fits .n)
 
 loop-less : tie.Need-loop-less Inv-loop μ-loop
 loop-less c = omega arith
 
 loop-again : tie.Need-loop-again Inv-loop μ-loop
 loop-again c =
-    let d = c .before .before in
+    let j = c .before in
+    let d = j .before .before in
     let l = at-loop d .loop in
     let a = at-start (at-loop d) .args in
-    later-next (a .rules .now) (a .words .now) (a .n) (l .before) (l .at) (l .k) (l .inv) (omega arith)
-    (subst (FaultIs (a .rules .now) (a .words .now) (l .before) (l .at)) (c .before .if1 .left) (d .later-fault .ensures)) (c .end-of2 .result) (c .end-of2 .ensures)
+    let f = judged d _ (j .judged .given .1) in
+    later-next (a .rules .now) (a .words .now) (a .n) (l .before) (l .at) (l .k) (l .inv) (omega arith) (f .1) _ (f .0)
+
+returns : tie.Need-returns Inv-loop μ-loop
+returns c =
+    let j = c .before in
+    let d = j .before .before in
+    let l = at-loop d .loop in
+    let a = at-start (at-loop d) .args in
+    let f = judged d _ (j .judged2 .given .1) in
+    later-found (a .rules .now) (a .words .now) (a .n) (l .before) (l .at) (l .k) (l .inv) (omega arith) _ (f .0) (f .1)
 
 returns-2 : tie.Need-returns-2 Inv-loop μ-loop
 returns-2 c =
@@ -88,4 +99,4 @@ returns-2 c =
 pub later-terms-spec : {M : Type 1} → statement M
 later-terms-spec =
     tie.close
-    (tie.spec Inv-loop μ-loop end-of-requires loop-holds later-fault-requires returns end-of-requires-2 add-k loop-less loop-again returns-2)
+    (tie.spec Inv-loop μ-loop end-of-requires loop-holds later-fault-requires enum-known-judged add-k loop-less loop-again enum-known-judged-2 returns returns-2)

@@ -10,8 +10,8 @@ use mathlib.Core.Path.{_≡_, sym, ap, subst, _∙_}
 use lib.ListN.{length}
 use Rattle.model.specs.Limits.{flatWords}
 use Rattle.terms.specs.declared.TreeNode.{TreeNode}
-use Rattle.terms.specs.Place.{sameHead, nodeOf}
-use Rattle.terms.proofs.SameWalk.{sameAt, SameHere, same-first, same-done, same-off, same-next, Room, same-room}
+use Rattle.terms.specs.Place.{sameHead, sameAt, nodeOf}
+use Rattle.terms.proofs.SameWalk.{SameHere, same-first, same-done, same-off, same-next, Room, same-room}
 use Rattle.terms.proofs.same_term.Statement.{statement}
 use Rattle.terms.proofs.same_term.Tie as tie
 
