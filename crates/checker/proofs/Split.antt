@@ -1,9 +1,9 @@
 -- A later term split at its one mark: the nodes before it, the subterm that it marks, and the nodes behind that.
 -- Assumes nothing.
-use Prim.Native.Nat.{ℕ, zero, suc, _+_, _-_, _*_, _/_, _≤_, _<_}
-use mathlib.Core.Bool.{Bool, true, false, not, _&&_, _||_, or-false}
+use Prim.Native.Nat.{ℕ, suc, _+_, _-_, _*_, _/_, _≤_}
+use mathlib.Core.Bool.{Bool, true, false, not, _&&_, or-false}
 use mathlib.Core.List.{List}
-use mathlib.Core.Option.{Option, none, some}
+use mathlib.Core.Option.{some}
 use mathlib.Core.Path.{_≡_, refl, sym, ap, subst, _∙_}
 use native.Mathlib.Nat.{div-eq-of-lt-le}
 use native.Mathlib.Omega.{arith}
@@ -17,12 +17,12 @@ use Rattle.model.specs.Pattern.{fits}
 use Rattle.model.specs.Rule.{Rule, listed, isListed}
 use Rattle.model.specs.Tables.{ruleTable}
 use Rattle.model.specs.Step.{leftOf, rightOf, fitsRule, allowed, step, someMark, namesUnlisted, unlisted}
-use Rattle.terms.specs.Place.{nodeOf, sameNodes, TermAt, RowAt, Well, EndsAt}
+use Rattle.terms.specs.Place.{sameNodes, TermAt, RowAt, EndsAt}
 use Rattle.terms.proofs.Place.{Tree, row-tree, term-row, term-length, term-same, end-same}
 use Rattle.terms.proofs.Read.{direction-some}
 use Rattle.terms.proofs.Rows.{length-words}
 use Rattle.terms.proofs.Marks.{no-mark}
-use Rattle.marks.specs.Marks.{fromMark, RestOf, OneAt}
+use Rattle.marks.specs.Marks.{fromMark, OneAt}
 use Rattle.marks.proofs.First.{Headed, headed, from-marks, from-some}
 use Rattle.checker.specs.Check.{Marked, StepIs, faultOf, FaultIs}
 use Rattle.checker.proofs.Front.{Rests, front-on, front-off, marked-over, plain-step}

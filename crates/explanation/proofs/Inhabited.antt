@@ -1,4 +1,4 @@
--- Demand 3 is not empty: the tables of document 01's run (P1), as words, with a witness of the premise; the query 2, 3 over an area of
+-- Demand 3 and the book's chains are not empty: the tables of document 01's run (P1), as words, with a witness of the premise; the query 2, 3 over an area of
 -- twenty words is answered, and the checker accepts what it delivers.
 use Prim.Native.Nat.{ℕ, _-_}
 use mathlib.Core.List.{List, [], _∷_, _++_, List·Memᴰ·head}
@@ -10,9 +10,10 @@ use Rattle.model.specs.declared.Direction.the-variants.{Forward}
 use Rattle.model.specs.declared.Justification.the-variants.{Rule as byRule, Congruence}
 use Rattle.model.specs.declared.Verdict.the-variants.{Accepted}
 use Rattle.model.specs.Judged.{good}
-use Rattle.model.specs.Term.{unmarked, noTerms, strip, words, count}
+use Rattle.model.specs.Term.{Mark, unmarked, marked, Terms, noTerms, tree, strip, words, count, Narrow}
 use Rattle.model.specs.Pattern.{noPatterns, app, inst}
 use Rattle.model.specs.Rule.{listed}
+use Rattle.model.specs.Book.{subterm, replace, Move, LeadsBy, ChainBy, Rewriting, marking}
 use Rattle.model.specs.Node.{termOf}
 use Rattle.model.specs.Forest.{by, dist}
 use Rattle.model.specs.Flat.{flatProof}
@@ -20,6 +21,8 @@ use Rattle.model.specs.Premise.{Premise}
 use Rattle.model.specs.Query.{Tables}
 use Rattle.model.specs.Tables.{judgeTables, answerBy, areaOf, verdictBy, nodeWords, sideWords}
 use Rattle.explanation.specs.Demand.{Asked, Granted}
+use Rattle.checker.proofs.Book.{written-mark}
+use Rattle.explanation.proofs.DemandTwo.{demand-2-book}
 use Rattle.explanation.proofs.DemandThree.{demand-3}
 
 -- words, and zeros behind them up to a size
@@ -100,3 +103,46 @@ area-is = granted .lent
 verdict-is : verdictBy (judgeTables nodes rules connections) offered ≡ Accepted 2
 unfolding t offered dist flatProof words count
 verdict-is = granted .accepted premise
+
+-- DEMAND 2 IN THE BOOK'S WORDS is not empty either: (o3 o1) rewrites to (o3 o2) by r7 at position 0 0, the first child of the first term,
+-- and P1's words are that rewrite written down, so that the checker accepts them.
+move : Move
+move = record { way = Forward; number = 7; place = 0 ∷ 0 ∷ [] }
+
+over : ℕ → Mark → Terms
+over o m = tree 3 unmarked (tree o m noTerms noTerms) noTerms
+
+leads : LeadsBy (t .rules) move (over 1 unmarked) (over 2 unmarked)
+unfolding t move over strip listed subterm replace inst
+leads =
+    record {
+      before = refl;
+      after = refl;
+      rule = record { number = 7; left = app 1 noPatterns noPatterns; right = app 2 noPatterns noPatterns };
+      isIn = refl;
+      σ = λ x. record { op = 0; mark = unmarked; kids = noTerms };
+      redex = record { op = 1; mark = unmarked; kids = noTerms };
+      contractum = record { op = 2; mark = unmarked; kids = noTerms };
+      stands = refl;
+      left = refl;
+      right = refl;
+      makes = refl;
+    }
+
+rewritten : Rewriting (t .rules) offered 2
+unfolding t offered move over marking strip words Narrow count ChainBy
+rewritten =
+    record {
+      first = record { op = 3; mark = unmarked; kids = tree 1 unmarked noTerms noTerms };
+      rest = over 2 (marked Forward 7);
+      moves = move ∷ [];
+      form = record { narrow = (omega arith, (omega arith, tt, tt), (omega arith, (omega arith, tt, tt), tt)); spelled = refl };
+      plain = refl;
+      chain = (written-mark (t .rules) move (over 1 unmarked) (over 2 unmarked) leads, leads, tt);
+      counted = refl;
+      fewWords = omega arith;
+      fewTerms = omega arith;
+    }
+
+rewritten-accepted : verdictBy (judgeTables nodes rules connections) offered ≡ Accepted 2
+rewritten-accepted = demand-2-book nodes rules connections t are offered 2 .1 rewritten

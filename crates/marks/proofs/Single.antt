@@ -1,7 +1,7 @@
 -- One mark, none, or more, from two walks: to the first mark, and from behind it on.
 -- Assumes nothing.
 use Prim.Native.Nat.{ℕ, suc, _+_, _-_, _*_, _≤_, _<_}
-use mathlib.Core.Bool.{Bool, true, false, true≢false}
+use mathlib.Core.Bool.{Bool, true, false}
 use mathlib.Core.List.{List}
 use mathlib.Core.Path.{_≡_, refl, sym, ap, _∙_}
 use native.Mathlib.Omega.{arith}
@@ -9,11 +9,11 @@ use lib.ListN.{length}
 use Rattle.model.specs.Limits.{flatWords}
 use Rattle.model.specs.Term.{Mark, unmarked, marked, Terms, noTerms, tree, Term, one, join, count, size, markCount, marks, markWord}
 use Rattle.model.specs.Step.{someMark, isMark}
-use Rattle.terms.specs.Place.{TermAt, RowAt, Well, nodeOf}
-use Rattle.terms.proofs.Place.{row-tree, term-row, term-length}
+use Rattle.terms.specs.Place.{TermAt, RowAt, nodeOf}
+use Rattle.terms.proofs.Place.{row-tree, term-length}
 use Rattle.terms.proofs.Rows.{size-join, count-none, length-words}
 use Rattle.terms.proofs.Marks.{marks-join, no-mark, none-found}
-use Rattle.marks.specs.Marks.{HasRow, fromMark, RestOf, RestIs, OneAt}
+use Rattle.marks.specs.Marks.{fromMark, RestOf, OneAt}
 use Rattle.marks.proofs.First.{from-marks, headed, Headed, some-left}
 
 -- a row has a mark exactly where something is left

@@ -36,7 +36,7 @@ module _ (ws : List ℕ) (at n nodes pending : ℕ) (here : WalkHere ws at n nod
       let e : at + flatWords * (nodes + 1) ≡ at + flatWords * nodes + flatWords = omega arith in
       rw e
       (remaining-down ws (at + flatWords * nodes) (Before f nodes) (Before f (nodes + 1)) pending
-      (λ o m k s w r b.
+      (λ o m k s w b.
       record {
         first = from-down o m k s (sym w ∙ z) ∙ b .first;
         walked = omega (arith, size-join k s, b .walked);

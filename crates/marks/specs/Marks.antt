@@ -5,7 +5,7 @@ use mathlib.Core.Bool.{Bool}
 use mathlib.Core.List.{List}
 use mathlib.Core.Path.{_≡_}
 use Rattle.model.specs.Limits.{flatWords}
-use Rattle.model.specs.Term.{Mark, unmarked, marked, Terms, noTerms, tree, Term, one, join, size, count, marks}
+use Rattle.model.specs.Term.{unmarked, marked, Terms, noTerms, tree, Term, one, join, size, count, marks}
 use Rattle.model.specs.Step.{someMark, isMark}
 use Rattle.terms.specs.Place.{TermAt, RowAt}
 use Rattle.marks.specs.declared.Rest.{Rest}

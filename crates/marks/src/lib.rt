@@ -8,9 +8,9 @@ ghost use Rattle.marks.specs.Marks.{HasRow, RestIs, MarkedIs, OneIs};
 
 // A row of terms from its first mark on: behind how many nodes it stands, and how many terms are still to be read there. None are
 // where the row has no mark.
-pub struct Rest {
-    pub nodes: usize,
-    pub pending: usize,
+struct Rest {
+    nodes: usize,
+    pending: usize,
 }
 
 // The row of `count` terms at `at` from its first mark on.

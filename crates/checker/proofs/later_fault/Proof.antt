@@ -3,11 +3,10 @@
 use borrow.Author.Needs.{needs}
 use native.Mathlib.Omega.{arith}
 use Prim.Native.Nat.{ℕ}
-use mathlib.Core.Path.{_≡_, sym, subst, _∙_}
-use Rattle.model.specs.Term.{Term, one}
+use mathlib.Core.Path.{_≡_, sym, subst}
+use Rattle.model.specs.Term.{one}
 use Rattle.terms.specs.Place.{TermAt}
 use Rattle.marks.specs.declared.OneMark.{OneMark}
-use Rattle.marks.specs.declared.OneMark.the-variants.{Behind}
 use Rattle.marks.specs.Marks.{OneIs, OneAt}
 use Rattle.checker.specs.Check.{Marked, FaultIs}
 use Rattle.checker.proofs.Later.{fault-marks}

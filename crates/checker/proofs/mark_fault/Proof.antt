@@ -10,14 +10,13 @@ use mathlib.Core.Option.{Option}
 use mathlib.Core.Path.{_≡_, sym, ap, subst, _∙_}
 use Rattle.model.specs.Judged.{good}
 use Rattle.model.specs.Limits.{flatWords}
-use Rattle.model.specs.Term.{one, marks}
+use Rattle.model.specs.Term.{one}
 use Rattle.model.specs.Rule.{Rule, listed, isListed}
 use Rattle.model.specs.Step.{step, unlisted}
 use Rattle.model.specs.Tables.{ruleTable}
 use Rattle.terms.specs.declared.TreeNode.{TreeNode}
 use Rattle.terms.specs.Place.{nodeOf}
 use Rattle.rule_table.specs.declared.Listed.{Listed}
-use Rattle.rule_table.specs.declared.Listed.the-variants.{At}
 use Rattle.rule_table.specs.Entries.{whereListed}
 use Rattle.rule_table.proofs.Table.{table-found, table-nowhere}
 use Rattle.checker.specs.Check.{Marked}

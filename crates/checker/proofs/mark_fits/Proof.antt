@@ -4,7 +4,7 @@ use borrow.Author.Needs.{needs}
 use Prim.Native.Nat.{ℕ}
 use mathlib.Core.Path.{_≡_, sym, ap, _∙_}
 use Rattle.model.specs.declared.Direction.{Direction}
-use Rattle.model.specs.Term.{Mark, marked, Term, markWord, directionWord}
+use Rattle.model.specs.Term.{marked, Term, markWord, directionWord}
 use Rattle.terms.specs.declared.TreeNode.{TreeNode}
 use Rattle.terms.specs.Place.{TermAt}
 use Rattle.terms.proofs.Place.{well-room}
