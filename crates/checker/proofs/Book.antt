@@ -15,7 +15,7 @@ use Rattle.model.specs.Term.{Mark, unmarked, marked, Terms, noTerms, tree, Term
 use Rattle.model.specs.Pattern.{Substitution, inst}
 use Rattle.model.specs.Rule.{Rule, listed}
 use Rattle.model.specs.Step.{leftOf, rightOf, ByRule, Step}
-use Rattle.model.specs.Book.{Position, subterm, replace, Rewrites, Move, LeadsBy, MarkAt, OnlyMark, BookStep, marking}
+use Rattle.model.specs.Book.{Position, subterm, replace, Rewrites, Move, LeadsBy, MarkAt, OnlyMark, BookStep, marking, written}
 use Rattle.model.specs.Verdict.{Later}
 use Rattle.terms.proofs.Rows.{strip-strip}
 use Rattle.terms.proofs.Marks.{strip-unmarked}
@@ -279,10 +279,7 @@ mark-only (tree o x k s) (zero ∷ []) d n e = omega arith
 mark-only (tree o x k s) (zero ∷ j ∷ p) d n e = omega (arith, mark-only k (j ∷ p) d n (omega arith))
 mark-only (tree o x k s) (suc j ∷ p) d n e = omega (arith, mark-only s (j ∷ p) d n (omega arith))
 
--- A term with a move's mark put in: how a rewrite is written in a flat proof. The terms of a rewrite have no marks, so that this is its one.
-abbrev pub written : Terms → Move → Terms
-written t m = marking t (m .place) (marked (m .way) (m .number))
-
+-- The terms of a rewrite have no marks, so that the mark put in is the one that the written term has.
 pub written-mark : (rs : List Rule) (m : Move) (s t : Terms) → LeadsBy rs m s t → OnlyMark (written t m) m
 written-mark rs m s t r =
     let (_, e, a) = leads rs (m .way) (m .number) (m .place) s t .0 r in
@@ -293,7 +290,7 @@ written-mark rs m s t r =
 
 -- Every rewrite of the book, read either way, is a right later term once its place is marked.
 pub rewrite-written : (rs : List Rule) (m : Move) (s t : Terms) → LeadsBy rs m s t
-    → Later rs s (marking t (m .place) (marked (m .way) (m .number))) × (strip (marking t (m .place) (marked (m .way) (m .number))) ≡ t)
+    → Later rs s (written t m) × (strip (written t m) ≡ t)
 rewrite-written rs m s t r =
     let (b, a, _) = leads rs (m .way) (m .number) (m .place) s t .0 r in
     let e : strip (written t m) ≡ t = mark-strip t (m .place) (marked (m .way) (m .number)) ∙ a in

@@ -4,6 +4,7 @@ pub mod DemandTwo
 pub mod Positions
 pub mod Book
 pub mod Rewritings
+pub mod Written
 pub mod Front
 pub mod Split
 pub mod Later

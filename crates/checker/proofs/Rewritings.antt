@@ -1,24 +1,22 @@
 -- Accepted words are exactly a chain of the book's rewrites, one a later term, each read off its term's mark: n terms, n - 1 rewrites.
--- And every chain of the book's rewrites, written down with its marks, is a strict proof, accepted where it keeps the limits.
 -- Assumes nothing.
-use Prim.Native.Nat.{ℕ, zero, suc, _≤_}
-use mathlib.Core.List.{List, [], _∷_, map}
+use Prim.Native.Nat.{ℕ, suc, _≤_}
+use mathlib.Core.List.{List, [], _∷_}
 use mathlib.Core.Logic.{_↔_}
 use mathlib.Core.Path.{_≡_, refl, sym, _∙_, ap, ap₂, subst}
 use native.Mathlib.Omega.{arith}
 use lib.ListN.{length}
 use Rattle.model.specs.declared.Verdict.the-variants.{Accepted}
 use Rattle.model.specs.Limits.{termLimit, wordLimit}
-use Rattle.model.specs.Term.{Mark, marked, Terms, noTerms, tree, Term, put, one, count, join, strip, marks, Narrow, size, words, Reads}
+use Rattle.model.specs.Term.{Terms, noTerms, tree, put, one, count, marks, Reads}
 use Rattle.model.specs.Rule.{Rule}
 use Rattle.model.specs.Step.{isMark}
-use Rattle.model.specs.Book.{Position, Move, LeadsBy, OnlyMark, ChainBy, Rewriting, marking}
+use Rattle.model.specs.Book.{Move, ChainBy, Rewriting}
 use Rattle.model.specs.Verdict.{Chain, Strict, Proves, verdict}
 use Rattle.terms.proofs.Read.{reads-once}
-use Rattle.terms.proofs.Rows.{strip-join, count-strip, length-words}
 use Rattle.terms.proofs.Marks.{no-mark, none-found, unmarked-strip, strip-unmarked}
 use Rattle.checker.proofs.DemandTwo.{demand-2}
-use Rattle.checker.proofs.Book.{one-move, later-book, written, written-mark, rewrite-written}
+use Rattle.checker.proofs.Book.{one-move, later-book}
 
 -- A chain of right later terms is a chain of rewrites by some moves,
 chain-moves : (rs : List Rule) (s f : Terms) → Chain rs s f → (ms : List Move) × ChainBy rs s ms f
@@ -29,7 +27,7 @@ chain-moves rs s (tree o x k f) h =
     let (ms, c) = chain-moves rs (tree o x k noTerms) f (h .1) in
     (b .move ∷ ms, (b .mark, b .rewrites, c))
 
-moves-chain : (rs : List Rule) (s : Terms) (ms : List Move) (f : Terms) → ChainBy rs s ms f → Chain rs s f
+pub moves-chain : (rs : List Rule) (s : Terms) (ms : List Move) (f : Terms) → ChainBy rs s ms f → Chain rs s f
 unfolding Chain ChainBy
 moves-chain rs s [] noTerms h = tt
 moves-chain rs s [] (tree o x k f) h = absurd h
@@ -110,104 +108,3 @@ one-rewriting rs ws n x y =
     let r : y .rest ≡ x .rest = cc in
     one-chain rs (one (x .first)) (one (y .first)) (x .moves) (y .moves) (x .rest) (x .chain)
     (subst (λ (f : Terms). ChainBy rs (one (y .first)) (y .moves) f) r (y .chain))
-
--- The other way: a chain of the book on terms without marks. Each next term comes with the move that leads to it,
-pub record Next : Type 0 where
-  pub move : Move
-  pub term : Term
-
-unfoldable pub Leads : List Rule → Terms → List Next → Type 0
-Leads rs s [] = Unit {0}
-Leads rs s (x ∷ xs) = LeadsBy rs (x .move) s (one (x .term)) × Leads rs (one (x .term)) xs
-
-abbrev pub movesOf : List Next → List Move
-movesOf xs = map (λ (x : Next). x .move) xs
-
-unfoldable pub termsOf : List Next → Terms
-termsOf [] = noTerms
-termsOf (x ∷ xs) = put (x .term) (termsOf xs)
-
--- and is written with that move's mark put in.
-unfoldable pub writtenRow : List Next → Terms
-unfolding marking join
-writtenRow [] = noTerms
-writtenRow (x ∷ xs) = join (written (one (x .term)) (x .move)) (writtenRow xs)
-
--- a term with a mark put in is one term
-mark-one : (t : Term) (p : Position) (m : Mark) → count (marking (one t) p m) ≡ 1
-unfolding marking count
-mark-one t [] m = refl
-mark-one t (zero ∷ []) m = refl
-mark-one t (zero ∷ j ∷ p) m = refl
-mark-one t (suc j ∷ p) m = refl
-
--- a term in front of a chain
-chain-front : (rs : List Rule) (s t : Terms) (m : Move) (ms : List Move) (f : Terms) → count t ≡ 1 → OnlyMark t m → LeadsBy rs m (strip s) (strip t)
-    → ChainBy rs t ms f → ChainBy rs s (m ∷ ms) (join t f)
-unfolding ChainBy join count
-chain-front rs s noTerms m ms f e o l h = absurd (omega arith)
-chain-front rs s (tree a x k noTerms) m ms f e o l h = (o, l, h)
-chain-front rs s (tree a x k (tree a′ x′ k′ s′)) m ms f e o l h = absurd (omega arith)
-
--- Written down it is a chain by these moves, behind any term that is its first, marks aside;
-pub written-moves : (rs : List Rule) (s u : Terms) (xs : List Next) → strip u ≡ s → Leads rs s xs
-    → ChainBy rs u (movesOf xs) (writtenRow xs)
-unfolding Leads writtenRow ChainBy
-written-moves rs s u [] e h = tt
-written-moves rs s u (x ∷ xs) e h =
-    let t = one (x .term) in
-    let m = x .move in
-    let same = rewrite-written rs m s t (h .0) .1 in
-    chain-front rs u (written t m) m (movesOf xs) (writtenRow xs) (mark-one (x .term) (m .place) (marked (m .way) (m .number)))
-    (written-mark rs m s t (h .0)) (rw (e, same) (h .0)) (written-moves rs t (written t m) xs same (h .1))
-
--- so its terms with their marks put in are right later terms, each behind the one before,
-pub written-chain : (rs : List Rule) (s : Terms) (xs : List Next) → strip s ≡ s → Leads rs s xs → Chain rs s (writtenRow xs)
-written-chain rs s xs e h = moves-chain rs s (movesOf xs) (writtenRow xs) (written-moves rs s s xs e h)
-
--- marks aside they are the chain's terms,
-pub written-strip : (rs : List Rule) (s : Terms) (xs : List Next) → Leads rs s xs → strip (writtenRow xs) ≡ termsOf xs
-unfolding Leads writtenRow termsOf join strip
-written-strip rs s [] h = refl
-written-strip rs s (x ∷ xs) h =
-    let t = one (x .term) in
-    strip-join (written t (x .move)) (writtenRow xs)
-    ∙ ap₂ join (rewrite-written rs (x .move) s t (h .0) .1) (written-strip rs t xs (h .1))
-
--- and the whole is accepted where the terms keep the limits, in which marks play no part.
-moves-length : (xs : List Next) → length (movesOf xs) ≡ length xs
-moves-length [] = refl
-moves-length (x ∷ xs) = ap suc (moves-length xs)
-
-narrow-strip : (f : Terms) → Narrow (strip f) → Narrow f
-unfolding Narrow strip
-narrow-strip noTerms h = tt
-narrow-strip (tree o m k s) h = (omega (arith, h .0, count-strip k), narrow-strip k (h .1), narrow-strip s (h .2))
-
-size-strip : (f : Terms) → size (strip f) ≡ size f
-unfolding size strip
-size-strip noTerms = refl
-size-strip (tree o m k s) = omega (arith, size-strip k, size-strip s)
-
-words-strip : (f : Terms) → length (words (strip f)) ≡ length (words f)
-words-strip f = omega (arith, length-words f, length-words (strip f), size-strip f)
-
-pub written-accepted : (rs : List Rule) (t : Term) (xs : List Next) → strip (one t) ≡ one t → Leads rs (one t) xs
-    → Narrow (put t (termsOf xs)) → length (words (put t (termsOf xs))) ≤ wordLimit → suc (length xs) ≤ termLimit
-    → verdict rs (words (put t (writtenRow xs))) ≡ Accepted (suc (length xs))
-unfolding join
-written-accepted rs t xs e h narrow few fewTerms =
-    let f : Terms = put t (writtenRow xs) in
-    let same : strip f ≡ put t (termsOf xs) = strip-join (one t) (writtenRow xs) ∙ ap₂ join e (written-strip rs (one t) xs h) in
-    rewriting rs (words f) (suc (length xs)) .1
-    (record {
-      first = t;
-      rest = writtenRow xs;
-      moves = movesOf xs;
-      form = record { narrow = narrow-strip f (rw same narrow); spelled = refl };
-      plain = e;
-      chain = written-moves rs (one t) (one t) xs e h;
-      counted = ap suc (moves-length xs);
-      fewWords = omega (arith, words-strip f, ap (λ (g : Terms). length (words g)) same, few);
-      fewTerms = fewTerms;
-    })

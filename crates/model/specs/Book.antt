@@ -1,8 +1,9 @@
 -- Rewriting as Baader and Nipkow define it, at one position, on terms without marks: what `Later` is held to.
 -- s rewrites to t by the rule (l, r) at a position p of s if for some substitution σ the subterm of s at p is σ(l) and t is s with σ(r)
 -- put there. `checker/proofs/Book.antt` shows that a later term is right exactly where its one mark tells such a rewrite, from the
--- earlier term to it (forward) or from it to the earlier (backward), marks aside; and `checker/proofs/Rewritings.antt` that accepted words are
--- exactly a chain of such rewrites, one a later term.
+-- earlier term to it (forward) or from it to the earlier (backward), marks aside; and that accepted words are exactly a chain of such
+-- rewrites, one a later term, each read off its term's mark (`checker/proofs/Rewritings.antt`), or, told from the book's side, such a chain
+-- written down with its marks (`checker/proofs/Written.antt`).
 use Prim.Native.Nat.{ℕ, zero, suc, _≤_}
 use mathlib.Core.List.{List, [], _∷_}
 use mathlib.Core.Option.{Option, none, some}
@@ -10,7 +11,7 @@ use mathlib.Core.Path.{_≡_}
 use lib.ListN.{length}
 use Rattle.model.specs.declared.Direction.{Direction}
 use Rattle.model.specs.Limits.{termLimit, wordLimit}
-use Rattle.model.specs.Term.{Mark, marked, Terms, noTerms, tree, Term, put, one, strip, Reads}
+use Rattle.model.specs.Term.{Mark, marked, Terms, noTerms, tree, Term, put, one, join, strip, Reads}
 use Rattle.model.specs.Pattern.{Substitution, inst}
 use Rattle.model.specs.Rule.{Rule, listed}
 use Rattle.model.specs.Step.{leftOf, rightOf}
@@ -96,10 +97,39 @@ pub record Rewriting (rs : List Rule) (ws : List ℕ) (n : ℕ) : Type 0 where
   pub fewWords : length ws ≤ wordLimit
   pub fewTerms : n ≤ termLimit
 
--- and a term with the mark of a move put in at its place: how a rewrite of the book is written in a flat proof
+-- The same told from the book's side, on terms without marks. A move's mark put in at its place: how a rewrite is written in a flat proof.
 unfoldable pub marking : Terms → Position → Mark → Terms
 marking noTerms p m = noTerms
 marking (tree o x k s) [] m = tree o x k s
 marking (tree o x k s) (zero ∷ []) m = tree o m k s
 marking (tree o x k s) (zero ∷ j ∷ p) m = tree o x (marking k (j ∷ p) m) s
 marking (tree o x k s) (suc i ∷ p) m = tree o x k (marking s (i ∷ p) m)
+
+abbrev pub written : Terms → Move → Terms
+written t m = marking t (m .place) (marked (m .way) (m .number))
+
+-- a chain of the book: each next term comes with the move that leads to it,
+pub record Next : Type 0 where
+  pub move : Move
+  pub term : Term
+
+unfoldable pub Leads : List Rule → Terms → List Next → Type 0
+Leads rs s [] = Unit {0}
+Leads rs s (x ∷ xs) = LeadsBy rs (x .move) s (one (x .term)) × Leads rs (one (x .term)) xs
+
+-- and is written with that move's mark put in
+unfoldable pub writtenRow : List Next → Terms
+unfolding marking join
+writtenRow [] = noTerms
+writtenRow (x ∷ xs) = join (written (one (x .term)) (x .move)) (writtenRow xs)
+
+-- words are such a chain of n terms, written down, within the limits
+pub record Written (rs : List Rule) (ws : List ℕ) (n : ℕ) : Type 0 where
+  pub first : Term
+  pub rest : List Next
+  pub plain : strip (one first) ≡ one first
+  pub leads : Leads rs (one first) rest
+  pub form : Reads ws (put first (writtenRow rest))
+  pub counted : suc (length rest) ≡ n
+  pub fewWords : length ws ≤ wordLimit
+  pub fewTerms : n ≤ termLimit
