@@ -13,7 +13,6 @@ use Rattle.model.specs.declared.Direction.the-variants.{Forward, Backward}
 use Rattle.model.specs.Judged.{good}
 use Rattle.model.specs.Limits.{flatWords}
 use Rattle.model.specs.Term.{Mark, unmarked, marked, Terms, noTerms, tree, Term, one, count, size, marks, directionWord}
-use Rattle.model.specs.Pattern.{fits}
 use Rattle.model.specs.Rule.{Rule, listed, isListed}
 use Rattle.model.specs.Tables.{ruleTable}
 use Rattle.model.specs.Step.{leftOf, rightOf, fitsRule, allowed, step, someMark, namesUnlisted, unlisted}
@@ -24,7 +23,7 @@ use Rattle.terms.proofs.Rows.{length-words}
 use Rattle.terms.proofs.Marks.{no-mark}
 use Rattle.marks.specs.Marks.{fromMark, OneAt}
 use Rattle.marks.proofs.First.{Headed, headed, from-marks, from-some}
-use Rattle.checker.specs.Check.{Marked, StepIs, faultOf, FaultIs}
+use Rattle.checker.specs.Check.{fitsBy, Marked, StepIs, faultOf, FaultIs}
 use Rattle.checker.proofs.Front.{Rests, front-on, front-off, marked-over, plain-step}
 
 -- THE MARK: its node, and what stands below it and behind it, which bears none
@@ -66,6 +65,10 @@ module _ (ws : List ℕ) (at e nodes end : ℕ) (t : Term) (o : OneAt ws at e no
   pub at-mark : AtMark ws at nodes t
   at-mark = go (fromMark (one t)) refl
 
+-- the subterm that it marks
+abbrev pub later-there : {ws : List ℕ} {at nodes : ℕ} {t : Term} → AtMark ws at nodes t → Terms
+later-there x = tree (x .op) (marked (x .way) (x .number)) (x .kids) noTerms
+
 -- where a term with so many nodes ends
 pub term-size : (ws : List ℕ) (at e : ℕ) (t : Term) → TermAt ws at e t → at + flatWords * size (one t) ≡ e
 term-size ws at e t h = omega (arith, term-length ws at e t h, length-words (one t))
@@ -88,8 +91,12 @@ pub record Halves (rs : List Rule) (ws : List ℕ) (before at nodes : ℕ) (s t 
   pub rest : Terms
   pub words : Tree ws (before + flatWords * nodes) (x .terms) op mark kids rest
   pub same : step rs (one s) (one t)
-      ≡ (allowed rs (marked (x .way) (x .number)) (tree op mark kids noTerms) (tree (x .op) (marked (x .way) (x .number)) (x .kids) noTerms) && step rs rest (x .rest))
+      ≡ (allowed rs (marked (x .way) (x .number)) (tree op mark kids noTerms) (later-there x) && step rs rest (x .rest))
   pub ends : before + flatWords * nodes + flatWords * suc (size kids + size rest) ≡ at
+
+-- the subterm of the earlier term that stands there
+abbrev pub earlier-there : {rs : List Rule} {ws : List ℕ} {before at nodes : ℕ} {s t : Term} {x : AtMark ws at nodes t} → Halves rs ws before at nodes s t x → Terms
+earlier-there h = tree (h .op) (h .mark) (h .kids) noTerms
 
 module _ (rs : List Rule) (ws : List ℕ) (before at end nodes : ℕ) (s t : Term) (hs : TermAt ws before at s) (ht : TermAt ws at end t) (o : OneAt ws at end nodes end t) where
   abbrev x : AtMark ws at nodes t
@@ -133,20 +140,15 @@ module _ (rs : List Rule) (ws : List ℕ) (before at end nodes : ℕ) (s t : Ter
 
   -- what the mark's rule says of the two subterms
   module _ (h : Halves rs ws before at nodes s t x) (y : Rule) (found : listed rs (x .number) ≡ some y) where
-    abbrev marked-fits : Bool
-    marked-fits =
-        fits (y .left) (y .right) (leftOf (x .way) (tree (h .op) (h .mark) (h .kids) noTerms) (tree (x .op) (marked (x .way) (x .number)) (x .kids) noTerms))
-        (rightOf (x .way) (tree (h .op) (h .mark) (h .kids) noTerms) (tree (x .op) (marked (x .way) (x .number)) (x .kids) noTerms))
-
-    by-rule : step rs (one s) (one t) ≡ (marked-fits && step rs (h .rest) (x .rest))
+    by-rule : step rs (one s) (one t) ≡ (fitsBy y (x .way) (earlier-there h) (later-there x) && step rs (h .rest) (x .rest))
     unfolding allowed
     by-rule =
         h .same
         ∙ (λ i.
-        fitsRule (found i) (leftOf (x .way) (tree (h .op) (h .mark) (h .kids) noTerms) (tree (x .op) (marked (x .way) (x .number)) (x .kids) noTerms))
-        (rightOf (x .way) (tree (h .op) (h .mark) (h .kids) noTerms) (tree (x .op) (marked (x .way) (x .number)) (x .kids) noTerms)) && step rs (h .rest) (x .rest))
+        fitsRule (found i) (leftOf (x .way) (earlier-there h) (later-there x)) (rightOf (x .way) (earlier-there h) (later-there x))
+        && step rs (h .rest) (x .rest))
 
-    pub unfit : marked-fits ≡ false → step rs (one s) (one t) ≡ false
+    pub unfit : fitsBy y (x .way) (earlier-there h) (later-there x) ≡ false → step rs (one s) (one t) ≡ false
     unfit e = by-rule ∙ ap (λ (b : Bool). b && step rs (h .rest) (x .rest)) e
 
   module _ (h : Halves rs ws before at nodes s t x) (e e′ : ℕ) (a : EndsAt ws (before + flatWords * nodes) e) (b : EndsAt ws (at + flatWords * nodes) e′) where
@@ -180,8 +182,9 @@ module _ (rs : List Rule) (ws : List ℕ) (before at end nodes : ℕ) (s t : Ter
         plain-step rs ws e e′ (x .terms) (h .rest) (x .rest) (rw stop-a at (h .words .behind)) (rw stop-b at (x .words .behind)) (x .plainRest)
 
     -- what the mark's rule says of the two subterms, and the nodes behind them, are the step
-    pub by-entry : (y : Rule) (found : listed rs (x .number) ≡ some y) → step rs (one s) (one t) ≡ (marked-fits h y found && sameNodes ws e e′ (size (x .rest)))
-    by-entry y found = by-rule h y found ∙ ap (λ (b : Bool). marked-fits h y found && b) (sym behind-same)
+    pub by-entry : (y : Rule) → listed rs (x .number) ≡ some y
+        → step rs (one s) (one t) ≡ (fitsBy y (x .way) (earlier-there h) (later-there x) && sameNodes ws e e′ (size (x .rest)))
+    by-entry y found = by-rule h y found ∙ ap (λ (b : Bool). fitsBy y (x .way) (earlier-there h) (later-there x) && b) (sym behind-same)
 
 -- whatever stands at two places is what is known to stand there
 pub step-known : (rws ws : List ℕ) (before at nodes end : ℕ) (w : Marked ws before at nodes end) (r : Bool)

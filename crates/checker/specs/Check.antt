@@ -29,11 +29,15 @@ EntryFits rws i ws a b r =
     (x : Rule) → ruleEntry rws i ≡ some x → (e e′ : ℕ) (t u : Term) → TermAt ws a e t → TermAt ws b e′ u
     → isFit r ≡ fits (x .left) (x .right) (one t) (one u)
 
--- and whether it allows the term at b, whose root is marked, to follow the term at a
+-- whether a rule, read one way, allows a term t to follow a term s
+abbrev pub fitsBy : Rule → Direction → Terms → Terms → Bool
+fitsBy x d s t = fits (x .left) (x .right) (leftOf d s t) (rightOf d s t)
+
+-- and whether, read as the mark at its root says, it allows the term at b to follow the term at a
 abbrev pub MarkFits : List ℕ → ℕ → List ℕ → ℕ → ℕ → Fit → Type 0
 MarkFits rws i ws a b r =
     (x : Rule) → ruleEntry rws i ≡ some x → (e e′ : ℕ) (t u : Term) → TermAt ws a e t → TermAt ws b e′ u
-    → (d : Direction) (n : ℕ) → u .mark ≡ marked d n → isFit r ≡ fits (x .left) (x .right) (leftOf d (one t) (one u)) (rightOf d (one t) (one u))
+    → (d : Direction) (n : ℕ) → u .mark ≡ marked d n → isFit r ≡ fitsBy x d (one t) (one u)
 
 -- a term from `at` to `end` with one mark, behind so many nodes, stands behind a term
 pub record Marked (ws : List ℕ) (before at nodes end : ℕ) : Type 0 where
@@ -49,7 +53,7 @@ StepIs rws ws a b r =
     (rs : List Rule) → ruleTable rws ≡ good rs → (e e′ : ℕ) (t u : Term) → TermAt ws a e t → TermAt ws b e′ u
     → r ≡ step rs (one t) (one u)
 
--- "each later term in order by 15, 16, 17": the first that holds, or 0
+-- by 15, 16, 17 in this order: the first that holds, or 0
 abbrev pub faultIf : Bool → ℕ → ℕ → ℕ
 faultIf true n f = n
 faultIf false n f = f

@@ -1,5 +1,6 @@
 -- Why the strict checker rejects words, in the words of document 01: each number, with its place, where its condition is the first to hold.
--- Nothing here is computed but where a node's mark is looked for, and the subterm at a position; `checker/proofs/Faults.antt` has that `verdict` rejects just so.
+-- Nothing here is computed but where a node's mark is looked for, and the subterm at a position; `checker/proofs/Faults.antt` has that `verdict`
+-- rejects just so.
 -- Assumes nothing.
 use Prim.Native.Nat.{ℕ, zero, suc, _≤_, _<_}
 use mathlib.Core.List.{List, []}
@@ -40,11 +41,11 @@ pub record TwoMarks (t : Terms) : Type 0 where
   pub number′ : ℕ
   pub isSecond : MarkAt t second (marked way′ number′)
 
--- 15: "has no mark, or more than one"
+-- 15, as A10 leaves it: no mark, or more than one
 abbrev pub NotOne : Terms → Type 0
 NotOne t = (Somewhere Marks t → ⊥) ⊎ TwoMarks t
 
--- "by 15, 16, 17": why the term t may not come behind the term s, the condition and none before it. 18 is no number of these.
+-- "by 15, 18, 16, 17", of which A10 leaves 15, 16, 17: why the term t may not come behind the term s, the condition and none before it
 pub data LaterFault (rs : List Rule) (s t : Terms) : ℕ → Type 0 where
   is-15 : NotOne t → LaterFault rs s t 15
   is-16 : (NotOne t → ⊥) → Somewhere (Unknown rs) t → LaterFault rs s t 16

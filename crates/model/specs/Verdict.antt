@@ -13,8 +13,9 @@ use Rattle.model.specs.Term.{Terms, noTerms, tree, count, marks, read, R
 use Rattle.model.specs.Rule.{Rule}
 use Rattle.model.specs.Step.{Step, step, someMark, isMark, unlisted}
 
--- "each later term arises from the one before by an instance of a listed rule at its marked place (exactly one) and is the same elsewhere".
--- `checker/proofs/Book.antt` `later-book`: that is one rewrite of the book's, at the mark's place, by the rule that it names.
+-- Demand 2 as A10 leaves it ("one or more" marked places became one): each later term arises from the one before by an instance of a listed
+-- rule at its one marked place and is the same elsewhere. `checker/proofs/Book.antt` `later-book`: that is one rewrite of the book's, at the
+-- mark's place, by the rule that it names.
 pub record Later (rs : List Rule) (s t : Terms) : Type 0 where
   pub oneMark : marks t ≡ 1
   pub arises : Step rs s t
@@ -43,7 +44,8 @@ abbrev pub rejectIf : Bool → ℕ → ℕ → Verdict → Verdict
 rejectIf true n k v = Rejected n k
 rejectIf false n k v = v
 
--- "then each later term in order by 15, 16, 17": the term at place k, behind the term s, and what comes behind it. 18 is nobody's number.
+-- "then each later term in order by 15, 18, 16, 17", of which A10 leaves 15, 16, 17: the term at place k, behind the term s, and what comes
+-- behind it. 15 is a term without exactly one mark, and 18 nobody's number.
 unfoldable pub laterVerdict : List Rule → ℕ → Terms → Terms → Verdict → Verdict
 unfolding step marks unlisted
 laterVerdict rs k s t v =

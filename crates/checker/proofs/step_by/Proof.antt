@@ -11,10 +11,8 @@ use mathlib.Core.Path.{_≡_, refl, sym, ap, subst, _∙_}
 use lib.ListN.{length}
 use Rattle.model.specs.Judged.{good}
 use Rattle.model.specs.Limits.{flatWords}
-use Rattle.model.specs.Term.{marked, noTerms, tree, size}
-use Rattle.model.specs.Pattern.{fits}
+use Rattle.model.specs.Term.{size}
 use Rattle.model.specs.Rule.{Rule, listed}
-use Rattle.model.specs.Step.{leftOf, rightOf}
 use Rattle.model.specs.Tables.{ruleTable}
 use Rattle.terms.specs.Place.{nodeOf, sameNodes, Well}
 use Rattle.rule_table.proofs.Entries.{Found}
@@ -22,8 +20,8 @@ use Rattle.rule_table.proofs.Table.{table-found}
 use Rattle.matching.specs.declared.Fit.{Fit}
 use Rattle.matching.specs.declared.Fit.the-variants.{Fits, Off}
 use Rattle.matching.specs.Match.{isFit}
-use Rattle.checker.specs.Check.{Marked, MarkFits}
-use Rattle.checker.proofs.Split.{AtMark, at-mark, Halves, halves, unequal, front-room, behind-count, behind-room, by-entry, unfit, step-known}
+use Rattle.checker.specs.Check.{fitsBy, Marked, MarkFits}
+use Rattle.checker.proofs.Split.{AtMark, at-mark, later-there, Halves, earlier-there, halves, unequal, front-room, behind-count, behind-room, by-entry, unfit, step-known}
 use Rattle.checker.proofs.step_by.Statement.{statement}
 use Rattle.checker.proofs.step_by.Tie as tie
 
@@ -160,9 +158,8 @@ same-nodes-requires-2 c κs = rw (count c) (behind c .0, behind c .1)
 
 -- what the rule says of the two subterms
 module _ (c : tie.After-mark-fits) (f : Fit) (e : c .mark-fits .result ≡ f) (rs : List Rule) (are : ruleTable (at-start (at-front c) .args .rules .now) ≡ good rs) where
-  said : let s = at-start (at-front c) in let h = half (c .before) rs in let x = mark s in let y = rule s rs are .rule in
-      isFit f ≡ fits (y .left) (y .right) (leftOf (x .way) (tree (h .op) (h .mark) (h .kids) noTerms) (tree (x .op) (marked (x .way) (x .number)) (x .kids) noTerms))
-      (rightOf (x .way) (tree (h .op) (h .mark) (h .kids) noTerms) (tree (x .op) (marked (x .way) (x .number)) (x .kids) noTerms))
+  said : let s = at-start (at-front c) in
+      isFit f ≡ fitsBy (rule s rs are .rule) (mark s .way) (earlier-there (half (c .before) rs)) (later-there (mark s))
   said =
       let s = at-start (at-front c) in
       let h = half (c .before) rs in
