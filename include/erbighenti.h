@@ -1,8 +1,8 @@
 /* Erbighenti for C: proved explanations of rewritten alert expressions.
    Tables and proofs are runs of 16-bit words, each a pointer and a length in words; their layouts are in crates/model/specs/Tables.antt
    and Term.antt.
-   No pointer may be null, also where the length is 0. What is lent to be written (`value`, `node`, `side`, `item`, `area`, `room`, `distance`,
-   `written`) must not overlap what is lent to be read, nor each other, and nobody may change the words while a call runs.
+   No pointer may be null, also where the length is 0. What is lent to be written (`value`, `area`, `room`, `distance`, `written`) must not
+   overlap what is lent to be read, nor each other, and nobody may change the words while a call runs.
    The library has no state: it keeps nothing from one call to the next, asks for no memory and writes to nothing but what it is lent. So
    any number of threads may call it at once, each with its own area, room and results; what is only read they may share.
    bindings/c has a program that uses it. */
@@ -23,20 +23,12 @@ extern "C" {
 #define ERBIGHENTI_TERMS 16384
 #define ERBIGHENTI_WORDS 1048576
 
-/* The sides of a rule. */
-enum { ERBIGHENTI_LEFT = 1, ERBIGHENTI_RIGHT = 2 };
-
 /* The strict checker over tables handed in whole. Returns document 01's number (2 to 7, 12 to 17 or 19), 0 for an accepted proof.
    Behind `value` stands the count of terms, or where it is refused the term's place from 0. Each term behind the first has exactly one
-   mark, so that an accepted proof has one step less than terms.
-   17, a step that is none, comes with the place where it went wrong. `node` is the first node of the term that is wrong, from 0, parents before
-   their children. Either it is unmarked and differs from the term before in operator or count, and `side` and `item` are 0; or it is the
-   marked one and its rule does not match, and they tell the first item of the rule that does not fit: on the left side (1), which is tried
-   first, or on the right side (2), each side's items counted from 0. Forward the left side is tried on the term before and the right side on
-   this one, backward the other way round. In all other cases `node`, `side` and `item` are 0. */
+   mark, so that an accepted proof has one step less than terms. */
 uint16_t erbighenti_check(const uint16_t *nodes, size_t nodes_len, const uint16_t *rules, size_t rules_len,
                           const uint16_t *connections, size_t connections_len, const uint16_t *words, size_t words_len,
-                          uint64_t *value, uint64_t *node, uint16_t *side, uint64_t *item);
+                          uint64_t *value);
 
 /* The distance of two nodes over tables handed in whole. Returns document 01's number (2 to 10), 0 where there is a distance.
    Behind `value` stands the distance, or 0 where it is refused. */

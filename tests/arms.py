@@ -4,7 +4,7 @@ import os, tempfile, zlib
 import program, tree_checker
 from library import CHECK, DISTANCE, QUERY, build, call, case, text
 from listed import LISTED, alike, difference
-from reference import (Fields, Refused, Run, connection_words, line_bytes, node_frame, node_words, output, rule_words, side_frame, term_text,
+from reference import (Fields, Refused, Run, connection_words, line_bytes, node_frame, node_words, rule_words, side_frame, term_text,
                        term_words)
 from rust import ask_many, build as build_oracle
 from scope import AREA, DISTANCE as FAR, TERMS
@@ -87,13 +87,13 @@ class Library(Arm):
                 yield f'{about}, a word too few', case(QUERY, *tables, [RUBBISH] * (len(words) - 1), left, right), (11, 0, 0, 0)
             spelled = term_text(found[1][-1]).encode()
             yield f'text of the last term of {about}', text(terms[-1], len(spelled) + left % 3), (0, len(spelled), 0, *spelled)
-        for k, (words, said) in enumerate(run.offered[:8]):
-            yield f'verdict {k}', case(CHECK, *tables, words), said
+        for k, (words, number, value) in enumerate(run.offered[:8]):
+            yield f'verdict {k}', case(CHECK, *tables, words), (number, value)
             if k == 0 and len(words) % 5 == 1:
-                yield f'verdict {k}, cut inside a node', case(CHECK, *tables, words[:-1]), (13, 0, 0, 0, 0)
+                yield f'verdict {k}, cut inside a node', case(CHECK, *tables, words[:-1]), (13, 0)
             # no run has so many terms as 19 asks for: now and then an accepted proof is offered again and again, as one
-            if k == 0 and said[0] == 0 and zlib.crc32(run.data) % 64 == 0:
-                yield 'long proof, one again and again', case(CHECK, *tables, words * (TERMS // said[1] + 1)), (19, 0, 0, 0, 0)
+            if k == 0 and number == 0 and zlib.crc32(run.data) % 64 == 0:
+                yield 'long proof, one again and again', case(CHECK, *tables, words * (TERMS // value + 1)), (19, 0)
         if run.stopped and run.stopped[0] <= 7 and not run.asked and not run.offered:
             yield from self.refused_entry(run, tables)
 
@@ -143,11 +143,11 @@ class Trees(Arm):
         found = []
         for run in runs:
             first = None
-            for k, (words, expected) in enumerate(run.offered[:8]):
+            for k, (words, *expected) in enumerate(run.offered[:8]):
                 self.count('verdict')
                 got = tree_checker.verdict(run.rules, words)
-                if got != expected and first is None:
-                    first = f'verdict {k}', expected, got
+                if got != tuple(expected) and first is None:
+                    first = f'verdict {k}', tuple(expected), got
             found.append(first)
         return found
 
@@ -167,7 +167,7 @@ class Rust(Arm):
             if number == 11 and run.forest.needed(left, right) > SHOWN or number == 8 and left == right:
                 continue
             yield f'query {left} {right}', [query_line(left, right)], self.query_fault(run, left, right, number, found)
-        for k, (words, (number, value, *_)) in enumerate(run.offered[:8]):
+        for k, (words, number, value) in enumerate(run.offered[:8]):
             # words that are no terms the Rust has not, and it has no limits
             if number not in (13, 19):
                 lines = [offered_line(words[at:at + 2400]) for at in range(0, len(words), 2400)]
@@ -238,14 +238,13 @@ class Program(Arm):
         self.command, self.folder = program.COMMAND, tempfile.TemporaryDirectory()
         self.given, self.printed = (os.path.join(self.folder.name, name) for name in ('given', 'printed'))
 
-    def output(self, data, *words):
+    def output(self, data):
         """what the program prints for an input; started without a shell or a thread, since that would take longer than the run itself"""
-        command = [*self.command, *words]
         with open(self.given, 'wb') as f:
             f.write(data)
         files = [(os.POSIX_SPAWN_OPEN, 0, self.given, os.O_RDONLY, 0),
                  (os.POSIX_SPAWN_OPEN, 1, self.printed, os.O_WRONLY | os.O_CREAT | os.O_TRUNC, 0o600)]
-        pid = os.posix_spawn(command[0], command, os.environ, file_actions=files)
+        pid = os.posix_spawn(self.command[0], self.command, os.environ, file_actions=files)
         status = os.waitstatus_to_exitcode(os.waitpid(pid, 0)[1])
         with open(self.printed, 'rb') as f:
             return f.read() if status == 0 else b'the program ended with status %d' % status
@@ -255,8 +254,5 @@ class Program(Arm):
         for made in runs:
             expected, got = ''.join(made.printed).encode(), self.output(made.data)
             self.count('run')
-            if got == expected and any(said[0] == 17 for _, said in made.offered):
-                expected, got = output(made.data, True), self.output(made.data, 'detail')
-                self.count('detail')
             found.append(None if got == expected else ('the output', expected, got))
         return found

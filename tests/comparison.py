@@ -14,8 +14,6 @@ class Covered:
     def __init__(self):
         self.inputs, self.kinds, self.numbers = 0, collections.Counter(), collections.Counter()
         self.distances, self.words, self.nodes, self.links, self.bytes = (collections.Counter() for _ in range(5))
-        # where steps went wrong: by side, and by node
-        self.sides, self.wrong = collections.Counter(), collections.Counter()
 
     def add(self, kind, run):
         self.inputs += 1
@@ -30,11 +28,8 @@ class Covered:
             # where the area is too small for the proof, the library is asked for the distance alone
             if number in (0, 11):
                 self.distances[run.forest.distance(left, right) if number else found[0]] += 1
-        for words, (number, _, node, side, _) in run.offered:
+        for words, _, _ in run.offered:
             self.words[len(words)] += 1
-            if number == 17:
-                self.sides[('none', 'left', 'right')[side]] += 1
-                self.wrong[node] += 1
 
     def refused(self):
         return {int(said.split()[1]) for said in self.numbers if ' ' in said}
@@ -50,8 +45,7 @@ class Covered:
         print('answers:')
         for said, n in sorted(self.numbers.items(), key=lambda item: (int(item[0].split()[-1]) if ' ' in item[0] else 0, item)):
             print(f'    {n:7} {said}')
-        print('17 by side: ' + ', '.join(f'{side} {n}' for side, n in sorted(self.sides.items())))
-        for name, sizes in (('distances', self.distances), ('words offered', self.words), ('nodes of 17', self.wrong), ('nodes', self.nodes),
+        for name, sizes in (('distances', self.distances), ('words offered', self.words), ('nodes', self.nodes),
                             ('connections', self.links), ('bytes', self.bytes)):
             print(f'{name}: {histogram(sizes)}')
         left = self.left()
@@ -76,7 +70,7 @@ def build_arms(only):
 
 def chosen(arm, number, kind):
     """Whether an arm is asked about an input. The program takes a process for each: malformed lines, and one of ten others."""
-    return arm.name != 'program' or number % 10 == 5 or kind.startswith(('lines', 'bad entry', 'named row'))
+    return arm.name != 'program' or number % 10 == 0 or kind.startswith(('lines', 'bad entry', 'named row'))
 
 
 def shown(answer):

@@ -1,7 +1,6 @@
 /* Calls the library on the cases that it reads from standard input, and prints each answer on a line.
    A case is eight 32-bit numbers (what to call, the lengths of four runs of words, two numbers, and how often), and the four runs.
    With 16 added to what to call, a line has one number more: how many bytes of stack the calls used.
-   A check (1) is of the fourth run. Its line goes on with the node, the side and the item.
    A query (3) is lent the fourth run as its area. Its line goes on with the words written, how many words behind them are not zero, and
    the words themselves.
    A text (4) is of the fourth run, into a room of as many bytes as the first of the two numbers says, full of rubbish. Its line goes on with
@@ -128,8 +127,8 @@ int main(void)
     uint32_t head[8];
     while (full(head, sizeof head)) {
         uint16_t *nodes = run(head[1]), *rules = run(head[2]), *connections = run(head[3]), *words = run(head[4]);
-        uint64_t value = 0, written = 0, node = 0, item = 0;
-        uint16_t number = 0, side = 0;
+        uint64_t value = 0, written = 0;
+        uint16_t number = 0;
         uint32_t what = head[0] & 15, measured = head[0] & 16;
         /* the words are read too, but where they are a query's area */
         uint32_t only_read = what == 3 ? 0 : head[4];
@@ -140,9 +139,9 @@ int main(void)
             paint();
         long began = clock();
         for (uint32_t k = 0; k < head[7]; k++) {
-            value = written = node = item = side = 77;
+            value = written = 77;
             if (what == 1)
-                number = erbighenti_check(nodes, head[1], rules, head[2], connections, head[3], words, head[4], &value, &node, &side, &item);
+                number = erbighenti_check(nodes, head[1], rules, head[2], connections, head[3], words, head[4], &value);
             else if (what == 2)
                 number = erbighenti_distance(nodes, head[1], rules, head[2], connections, head[3], (uint16_t)head[5], (uint16_t)head[6], &value);
             else if (what == 3)
@@ -155,9 +154,7 @@ int main(void)
         printf("%u %llu %ld", number, (unsigned long long)value, clock() - began);
         if (measured)
             printf(" %lu", (unsigned long)stack);
-        if (what == 1)
-            printf(" %llu %u %llu", (unsigned long long)node, side, (unsigned long long)item);
-        else if (what == 3)
+        if (what == 3)
             show_area(words, head[4], written);
         else if (what == 4)
             show_room(room, bytes, value);

@@ -161,8 +161,8 @@ MIX = [asked] * 34 + [honest] * 10 + [good] * 12 + [damaged] * 24 + [bad_entry] 
 def one(seed, number):
     """(kind, bytes) of input `number`"""
     rng = random.Random(f'{seed} {number}')
-    if number % 10 == 0 and number // 10 < len(rows()):
-        return 'named row', rows()[number // 10]
+    if number % 20 == 0 and number // 20 < len(rows()):
+        return 'named row', rows()[number // 20]
     # the dear ones are rare
     maker = damaged_row if number % 100 == 0 else large if number % 200 == 7 else rng.choice(MIX)
     kind, made = maker(rng)

@@ -14,17 +14,12 @@ int main()
     rules[196] = 2;
     uint16_t area[20];
     uint8_t room[40];
-    uint64_t far, distance, written, bytes, terms, place, node, item;
-    uint16_t side;
+    uint64_t far, distance, written, bytes, terms;
     unsigned measured = erbighenti_distance(nodes, 40, rules, 387, connections, 10, 2, 3, &far);
     unsigned answered = erbighenti_query(nodes, 40, rules, 387, connections, 10, 2, 3, area, 20, &distance, &written);
     unsigned spelled = erbighenti_term_text(area + 8, 8, room, sizeof room, &bytes);
-    unsigned checked = erbighenti_check(nodes, 40, rules, 387, connections, 10, area, written, &terms, &node, &side, &item);
-    // the marked o2 made o1: the rule's right side does not fit
-    area[12] = 1;
-    unsigned rejected = erbighenti_check(nodes, 40, rules, 387, connections, 10, area, written, &place, &node, &side, &item);
-    printf("%u %u, %u %u %u, %u %.*s, %u %u, %u %u node %u side %s item %u\n", measured, unsigned(far), answered, unsigned(distance),
-           unsigned(written), spelled, int(bytes), reinterpret_cast<const char *>(room), checked, unsigned(terms), rejected, unsigned(place),
-           unsigned(node), side == ERBIGHENTI_RIGHT ? "right" : "another", unsigned(item));
+    unsigned checked = erbighenti_check(nodes, 40, rules, 387, connections, 10, area, written, &terms);
+    printf("%u %u, %u %u %u, %u %.*s, %u %u\n", measured, unsigned(far), answered, unsigned(distance), unsigned(written), spelled,
+           int(bytes), reinterpret_cast<const char *>(room), checked, unsigned(terms));
     return 0;
 }

@@ -85,15 +85,9 @@ def text(words, room, times=1, what=TEXT):
 
 
 def call(driver, cases):
-    """The answers, (number, value, microseconds) each; behind a check's the node, the side and the item; behind a query's the words written, how
-    many behind them are not zero, and the words; behind a text's, whose value are the bytes written, how many behind them are not zero, and the
-    bytes."""
+    """The answers, (number, value, microseconds) each; behind a query's the words written, how many behind them are not zero, and the words;
+    behind a text's, whose value are the bytes written, how many behind them are not zero, and the bytes."""
     out = subprocess.run([os.path.join(TOP, 'launch'), driver], input=b''.join(cases), capture_output=True)
     if out.returncode:
         raise SystemExit(f'the driver ended with status {out.returncode}: {out.stderr[-300:]!r}')
     return [tuple(map(int, line.split())) for line in out.stdout.decode().splitlines()]
-
-
-def verdict(answer):
-    """a check's answer as tests/reference.py has it: number, value, node, side, item"""
-    return answer[:2] + answer[3:]

@@ -1,5 +1,5 @@
 """How the Rust's verdict on an offered proof and document 01's may differ: the rows of docs/DIFFERENCES.md."""
-from reference import answer, check, term_end
+from reference import answer, check, marked, term_end
 
 # what docs/DIFFERENCES.md lists, by its row
 UNLISTED, ABOVE, COUNTS = '1 a rule that is not listed', '2 changed above or beside a mark', '3 other child counts'
@@ -40,7 +40,7 @@ def first_fault(words, a, b, e, rules):
 
 def several(words, a, e):
     """The listed difference that a term's marks are: more than one, all of one direction. None where they are not."""
-    found = [i for i in range(a, e, 4) if words[i + 2]]
+    found = marked(words, a, e)
     if len(found) < 2 or len({words[i + 2] for i in found}) > 1:
         return None
     return INSIDE if any(i < j < term_end(words, i) for i in found for j in found) else SEVERAL

@@ -1,5 +1,5 @@
 """The program: built, and run on bytes."""
-import os, subprocess, tempfile, time
+import os, subprocess, time
 from library import TOP, launched, run
 
 PROGRAM = os.path.join(TOP, 'target', 'bin', 'explain')
@@ -12,19 +12,12 @@ def build():
     run('rt', 'check', 'explain')
 
 
-def printed(given, *words):
-    """What the program prints for an input, started with these words. It says nothing on standard error, and ends well."""
-    done = subprocess.run([*COMMAND, *words], input=given, capture_output=True)
+def printed(given):
+    """What the program prints for an input. It says nothing on standard error, and ends well."""
+    done = subprocess.run(COMMAND, input=given, capture_output=True)
     if done.returncode or done.stderr:
         return f'status {done.returncode}: {done.stderr[-300:]!r}'.encode()
     return done.stdout
-
-
-def told(given, *words):
-    """What it prints, and what it writes on descriptor 3"""
-    with tempfile.NamedTemporaryFile() as third:
-        command = ['bash', '-c', 'exec "$@" 3>"$0"', third.name, *COMMAND, *words]
-        return subprocess.run(command, input=given, capture_output=True).stdout, third.read()
 
 
 def with_stack(given, kibibytes):
@@ -32,9 +25,9 @@ def with_stack(given, kibibytes):
     return subprocess.run(['bash', '-c', f'ulimit -s {kibibytes} && exec "$@"', 'bash', *COMMAND], input=given, capture_output=True).stdout
 
 
-def in_pieces(given, sizes, *words):
+def in_pieces(given, sizes):
     """What it prints where the input comes in pieces of these sizes, over and over"""
-    program = subprocess.Popen([*COMMAND, *words], stdin=subprocess.PIPE, stdout=subprocess.PIPE)
+    program = subprocess.Popen(COMMAND, stdin=subprocess.PIPE, stdout=subprocess.PIPE)
     at, turn = 0, 0
     while at < len(given):
         program.stdin.write(given[at:at + sizes[turn % len(sizes)]])

@@ -1,14 +1,11 @@
-"""Document 01 once more, in Python: a second reading, against which the proved code is run. Plain and recursive where that is short. The checker
-walks trees, where the code walks words; terms can be very deep, so that these walks are loops."""
+"""Document 01 once more, in Python: a second reading, against which the proved code is run. Plain and recursive where that is short; terms are walked flat."""
 import sys
-from scope import AREA, CHILDREN, DIGITS, DISTANCE, ITEMS, LEFT, NEITHER, NODES, RIGHT, RULES, TERMS, VARIABLES, WORDS
+from scope import AREA, CHILDREN, DIGITS, DISTANCE, ITEMS, NODES, RULES, TERMS, VARIABLES, WORDS
 
 
 class Refused(Exception):
-    """A number, a term's place, and where its step went wrong: the node, and at a mark the side and the item. Zero where they do not apply."""
-
-    def __init__(self, number, place=0, wrong=(0, NEITHER, 0)):
-        self.number, self.place, self.wrong = number, place, wrong
+    def __init__(self, number, place=0):
+        self.number, self.place = number, place
 
 
 # Tables are lists of entries. A node is (operator, [children]); a rule (number, left, right), a side a list of items (0, variable)
@@ -181,8 +178,10 @@ def is_instance(nodes, rules, connection):
     if kind == 0:
         return True
     rule = next((r for r in rules if r[0] == number), None)
-    ends = term_of(nodes, current), term_of(nodes, nxt)
-    return rule is not None and fit(rule, *(ends if forward else ends[::-1])) is None
+    first = term_words(term_of(nodes, current))
+    words = first + term_words(term_of(nodes, nxt))
+    ends = (0, len(first)) if forward else (len(first), 0)
+    return rule is not None and fits(rule, words, *ends)
 
 
 def judge_tables(nodes, rules, connections):
@@ -223,156 +222,100 @@ def query(nodes, rules, connections, left, right, area):
     return d, [w for t in terms for w in term_words(t)]
 
 
-# Words of a proof, four a node (operator, count, mark, rule), and the terms that they spell, as a flat proof has them.
-
-def whole_node(words):
-    """whether these words are a node's"""
-    return len(words) == 4 and words[1] <= CHILDREN and words[2] <= 2 and (words[2] > 0 or words[3] == 0)
-
+# The strict checker, over flat words: four a node (operator, count, mark, rule).
 
 def term_end(words, at):
-    """where the term ends that begins at a place, or None"""
     pending = 1
     while pending:
-        if not whole_node(words[at:at + 4]):
+        if at + 4 > len(words):
             return None
-        pending += words[at + 1] - 1
+        op, count, mark, rule = words[at:at + 4]
+        if count > CHILDREN or mark > 2 or (mark == 0 and rule):
+            return None
+        pending += count - 1
         at += 4
     return at
 
 
-def read_terms(words):
-    """the terms, or None"""
-    terms, wanting = [], []                                          # of each node that wants children: those it has, and how many are to come
-    for at in range(0, len(words), 4):
-        if not whole_node(words[at:at + 4]):
+def bare(words, a, e):
+    """A term's words without its marks."""
+    return [w for i in range(a, e, 4) for w in words[i:i + 2]]
+
+
+def match_item(words, items, i, at, bound):
+    """Matches one pattern with one term: where both end, or None."""
+    it = items[i]
+    if it[0] == 0:
+        e = term_end(words, at)
+        here = bare(words, at, e)
+        if bound.setdefault(it[1], here) != here:
             return None
-        op, count, mark, rule = words[at:at + 4]
-        node = op, mark, rule, []
-        if wanting:
-            wanting[-1][0].append(node)
-            wanting[-1][1] -= 1
+        return i + 1, e
+    if words[at] != it[1] or words[at + 1] != it[2]:
+        return None
+    i, at = i + 1, at + 4
+    for _ in range(it[2]):
+        r = match_item(words, items, i, at, bound)
+        if r is None:
+            return None
+        i, at = r
+    return i, at
+
+
+def fits(rule, words, a, b):
+    bound = {}
+    return match_item(words, rule[1], 0, a, bound) is not None and match_item(words, rule[2], 0, b, bound) is not None
+
+
+def step(rules, words, a, b, e):
+    while b < e:
+        mark, rule = words[b + 2], words[b + 3]
+        if mark == 0:
+            if words[a:a + 2] != words[b:b + 2]:
+                return False
+            a, b = a + 4, b + 4
         else:
-            terms.append(node)
-        wanting.append([node[3], count])
-        while wanting and wanting[-1][1] == 0:
-            wanting.pop()
-    return None if wanting else terms
-
-
-def nodes_of(term):
-    """every node, in preorder"""
-    stack = [term]
-    while stack:
-        here = stack.pop()
-        yield here
-        stack += reversed(here[3])
-
-
-def size(term):
-    return sum(1 for _ in nodes_of(term))
-
-
-def marked(term):
-    return [node for node in nodes_of(term) if node[1]]
-
-
-def same(a, b):
-    """whether two terms are the same, marks aside"""
-    pairs = [(a, b)]
-    while pairs:
-        (op, _, _, kids), (op2, _, _, kids2) = pairs.pop()
-        if op != op2 or len(kids) != len(kids2):
-            return False
-        pairs += zip(kids, kids2)
+            r = rules[rule]
+            if not (fits(r, words, a, b) if mark == 1 else fits(r, words, b, a)):
+                return False
+            a, b = term_end(words, a), term_end(words, b)
     return True
 
 
-# The strict checker.
-
-class Off(Exception):
-    def __init__(self, item):
-        self.item = item
-
-
-def match(items, i, term, bound):
-    """Matches the pattern that begins at item i with one term: the item behind it. Off at the first item that does not fit."""
-    it, (op, _, _, kids) = items[i], term
-    if it[0] == 0:
-        if not same(bound.setdefault(it[1], term), term):
-            raise Off(i)
-        return i + 1
-    if it[1] != op or it[2] != len(kids):
-        raise Off(i)
-    i += 1
-    for kid in kids:
-        i = match(items, i, kid, bound)
-    return i
-
-
-def fit(rule, source, target):
-    """The left side with one term, then the right side with the other and what the left side bound. None where they fit, else the side and the
-    item of it that is the first not to fit."""
-    bound = {}
-    for side, items, term in ((LEFT, rule[1], source), (RIGHT, rule[2], target)):
-        try:
-            match(items, 0, term, bound)
-        except Off as off:
-            return side, off.item
-    return None
-
-
-def step_fault(rules, earlier, later):
-    """Down both terms together: None, or the later term's first node that is wrong, from 0 in preorder, and at a mark the side and the item."""
-    number, pairs = 0, [(earlier, later)]
-    while pairs:
-        a, b = pairs.pop()
-        (op, _, _, kids), (op2, mark, rule, kids2) = a, b
-        if mark:
-            off = fit(rules[rule], a, b) if mark == 1 else fit(rules[rule], b, a)
-            if off:
-                return number, *off
-            number += size(b)
-        elif op != op2 or len(kids) != len(kids2):
-            return number, NEITHER, 0
-        else:
-            number += 1
-            pairs += reversed(list(zip(kids, kids2)))
-    return None
+def marked(words, a, e):
+    """where the marked nodes of a term stand"""
+    return [i for i in range(a, e, 4) if words[i + 2]]
 
 
 def check(rules, words):
-    """The count of terms; Refused with number and place otherwise, and for 17 where. `rules` are accepted."""
+    """The count of terms; Refused with number and place otherwise. `rules` are accepted."""
     listed = {r[0]: r for r in rules}
     if len(words) > WORDS:
         raise Refused(19)
     if not words:
         raise Refused(12)
-    terms = read_terms(words)
-    if terms is None:
-        raise Refused(13)
-    if len(terms) > TERMS:
+    ends, at = [], 0
+    while at < len(words):
+        at = term_end(words, at)
+        if at is None:
+            raise Refused(13)
+        ends.append(at)
+    if len(ends) > TERMS:
         raise Refused(19)
-    if marked(terms[0]):
+    if marked(words, 0, ends[0]):
         raise Refused(14)
-    for k in range(1, len(terms)):
-        found = marked(terms[k])
+    before = 0
+    for k in range(1, len(ends)):
+        a, e = ends[k - 1], ends[k]
+        found = marked(words, a, e)
         if len(found) != 1:
             raise Refused(15, k)
-        if found[0][2] not in listed:
+        if words[found[0] + 3] not in listed:
             raise Refused(16, k)
-        fault = step_fault(listed, terms[k - 1], terms[k])
-        if fault:
-            raise Refused(17, k, fault)
-    return len(terms)
-
-
-def verdict(rules, words):
-    """what the library says: number, value (terms or place), node, side, item"""
-    try:
-        return 0, check(rules, words), 0, NEITHER, 0
-    except Refused as r:
-        return r.number, r.place, *r.wrong
+        if not step(listed, words, before, a, e):
+            raise Refused(17, k)
+        before = a
+    return len(ends)
 
 
 def answer(function, *arguments):
@@ -449,24 +392,10 @@ def words_frame(fields):
     return words
 
 
-def verdict_line(said, detail):
-    number, value, node, side, item = said
-    if number == 0:
-        return f'accepted {value}'
-    line = f'rejected {number} term {value}'
-    if number == 17:
-        line += f' node {node}'
-    if detail and side:
-        line += f" side {'left' if side == LEFT else 'right'} item {item}"
-    return line
-
-
 class Run:
-    def __init__(self, detail=False):
+    def __init__(self):
         self.kind, self.nodes, self.rules, self.forest, self.words, self.printed = 0, [], [], None, [], []
-        # whether a rejection at a mark is told with side and item
-        self.detail = detail
-        # for those who want more than the text: (left, right, number, (distance, terms)) of each query, words and verdict of each
+        # for those who want more than the text: (left, right, number, (distance, terms)) of each query, (words, number, value) of each
         # offered proof, and the number and line where the run stopped
         self.asked, self.offered, self.stopped = [], [], None
 
@@ -520,9 +449,9 @@ class Run:
             self.say(term_text(term))
 
     def verdict(self):
-        said = verdict(self.rules, self.words)
-        self.offered.append((self.words, said))
-        self.say(verdict_line(said, self.detail))
+        refused, value = answer(check, self.rules, self.words)
+        self.offered.append((self.words, refused, value))
+        self.say(f'rejected {refused} term {value}' if refused else f'accepted {value}')
         self.words = []
 
     def whole(self, data):
@@ -541,9 +470,9 @@ class Run:
             self.say(f'refused {refused.number} line {number}')
 
 
-def output(data, detail=False):
+def output(data):
     """What the program prints for an input, both in bytes."""
-    run = Run(detail)
+    run = Run()
     run.whole(data)
     return ''.join(run.printed).encode()
 

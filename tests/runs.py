@@ -1,9 +1,7 @@
 """Whole runs of the program, as named rows: what is read and what must be printed. An output is written by hand where it is short, or
-by a rule that says what each line is; the few others, None here, are made by tests/reference.py. `rows` has them all in bytes, `detailed`
-those that tell where a step went wrong, as they are told in detail."""
-import faulty
+by a rule that says what each line is; the few others, None here, are made by tests/reference.py. `rows` has them all in bytes."""
 from reference import output
-from scope import AREA, DIGITS, LEFT, NODES, R7, R9, R10, R11, RULES, many
+from scope import AREA, DIGITS, NODES, R7, R9, R10, R11, RULES, many
 from stored import connection_line, deep_lines, node_line, offered_line, query_line, rule_line, table_lines
 from tables import by_rule, chain, changed_leaf, congruent, deepest, leaning, nested, rising, runs_under, scrambled, tied, tower
 
@@ -24,14 +22,14 @@ P_ROWS = [
     ('P3 equal nodes', [*TABLES, '0400010001'], ['distance 0', 'o2']),
     ('P4 not joined', [*TABLES, '0400000002'], ['refused 9 line 8']),
     ('P5 no such node', [*TABLES, '0400000004'], ['refused 8 line 8']),
-    ('P6 another root above the mark', [*TABLES, FIRST, '05000401000000000200010007', '06'], ['rejected 17 term 1 node 0']),
+    ('P6 another root above the mark', [*TABLES, FIRST, '05000401000000000200010007', '06'], ['rejected 17 term 1']),
     ('P7 a mark names r8', [*TABLES, FIRST, '05000301000000000200010008', '06'], ['rejected 16 term 1']),
     ('P8 one unmarked term', [*TABLES, FIRST, '06'], ['accepted 1']),
     ('P9 the end alone', ['06'], ['rejected 12 term 0']),
     ('P10 the connections exchanged', [*NODE_LINES, *RULE_LINES, BY_CONGRUENCE, BY_RULE], ['refused 7 line 6']),
     ('P11 two leaves by congruence', ['01000100', '01000100', '030000000100000000', '0400000001'], ['distance 0', 'o1']),
     ('P12 one variable, two terms', [rule_line(R9), '05000502000000000100000000000200000000', '05000100010009', '06'],
-     ['rejected 17 term 1 node 0']),
+     ['rejected 17 term 1']),
 ]
 
 
@@ -154,10 +152,10 @@ REFUSALS = [
     ('16 an unlisted rule', [*RULE_LINES, term(O1), term(UNLISTED), '06'], ['rejected 16 term 1']),
     ('16 before 17', [*RULE_LINES, term(O1), term((3, 1, 0, 0), UNLISTED), '06'], ['rejected 16 term 1']),
     ('16 of term 1 before 15 of term 2', [*RULE_LINES, term(O1), term(UNLISTED), term(O2), '06'], ['rejected 16 term 1']),
-    ('17 backward instead of forward', [*RULE_LINES, term(O1), term((2, 0, 2, 7)), '06'], ['rejected 17 term 1 node 0']),
-    ('17 a leaf changed before the mark', [*RULE_LINES, term(O5, O1, O1), term(O5, O2, FORTH), '06'], ['rejected 17 term 1 node 1']),
-    ('17 a leaf changed behind the mark', [*RULE_LINES, term(O5, O1, O1), term(O5, FORTH, O2), '06'], ['rejected 17 term 1 node 2']),
-    ('17 of term 1 before 15 of term 2', [*RULE_LINES, term(O2), term(FORTH), term(O1), '06'], ['rejected 17 term 1 node 0']),
+    ('17 backward instead of forward', [*RULE_LINES, term(O1), term((2, 0, 2, 7)), '06'], ['rejected 17 term 1']),
+    ('17 a leaf changed before the mark', [*RULE_LINES, term(O5, O1, O1), term(O5, O2, FORTH), '06'], ['rejected 17 term 1']),
+    ('17 a leaf changed behind the mark', [*RULE_LINES, term(O5, O1, O1), term(O5, FORTH, O2), '06'], ['rejected 17 term 1']),
+    ('17 of term 1 before 15 of term 2', [*RULE_LINES, term(O2), term(FORTH), term(O1), '06'], ['rejected 17 term 1']),
     ('15 of term 2 behind a good term 1', [*RULE_LINES, term(O1), term(FORTH), term(O2), '06'], ['rejected 15 term 2']),
 ]
 
@@ -178,46 +176,13 @@ STEPS = [
     ('one term over three lines', [term(O5), term(O1), term(O2), '06'], ['accepted 1']),
     ('two terms on one line', [*RULE_LINES, term(O1, FORTH), '06'], ['accepted 2']),
     ('one proof behind another', [*RULE_LINES, term(O1), '06', term(O2), term(FORTH), '06', term(O1), '06'],
-     ['accepted 1', 'rejected 17 term 1 node 0', 'accepted 1']),
+     ['accepted 1', 'rejected 17 term 1', 'accepted 1']),
     ('operator and rule 65,535', [rule_line((65535, [(1, 65535, 0)], [(1, 0, 0)])), term((65535, 0, 0, 0)), term((0, 0, 1, 65535)), '06'],
      ['accepted 2']),
     ('rule 0', [rule_line((0, *R7[1:])), term(O1), term((2, 0, 1, 0)), '06'], ['accepted 2']),
 ]
 
 
-# Where a step went wrong: what is printed, and behind the last line of it what is told in detail.
-O4, SWAPPED, PAIR, WRAPS = (4, 0, 0, 0), (3, 0, 1, 7), (5, 2, 2, 10), rule_line(R10)
-WHERE = [
-    ('17 the root disagrees', [*RULE_LINES, term(O3, O1), term((4, 1, 0, 0), FORTH), '06'], ['rejected 17 term 1 node 0'], ''),
-    ("17 a variable's later item", [rule_line(R9), term(O5, O1, O2), term((1, 0, 1, 9)), '06'], ['rejected 17 term 1 node 0'], ' side left item 2'),
-    ('17 what a variable became', [rule_line(R9), term(O5, O1, O1), term((2, 0, 1, 9)), '06'], ['rejected 17 term 1 node 0'], ' side right item 0'),
-    ('17 the left side is tried first, backward', [*RULE_LINES, term(O4), term((3, 0, 2, 7)), '06'], ['rejected 17 term 1 node 0'],
-     ' side left item 0'),
-    ('17 a node before a mark that does not match', [*RULE_LINES, term(O5, O1, O1), term(O5, O2, SWAPPED), '06'], ['rejected 17 term 1 node 1'], ''),
-    ('17 a mark that does not match before such a node', [*RULE_LINES, term(O5, O1, O1), term(O5, SWAPPED, O2), '06'], ['rejected 17 term 1 node 1'],
-     ' side right item 0'),
-    ('17 two nodes disagree, and the first is told', [*RULE_LINES, term(O5_OF_3, O1, O1, O1), term(O5_OF_3, FORTH, O2, O2), '06'],
-     ['rejected 17 term 1 node 2'], ''),
-    ('17 behind a mark that shrank', [WRAPS, term(O5, O5, O1, O2, O1), term(O5, (1, 0, 1, 10), O2), '06'], ['rejected 17 term 1 node 2'], ''),
-    ('17 behind a mark that grew', [WRAPS, term(O5, O1, O1), term(O5, PAIR, O1, O2, O2), '06'], ['rejected 17 term 1 node 4'], ''),
-    ('17 behind a mark that grew much', [WRAPS, term(O5, O1, O1), term(O5, PAIR, O1, *[O3] * 600, O2, O2), '06'],
-     ['rejected 17 term 1 node 604'], ''),
-    ('17 inside a marked subterm the mark is told', [*WRAPPING, term(O5, O1, O3, O1), term(O5, O1, WRAPPED, O3, O2), '06'],
-     ['rejected 17 term 1 node 2'], ' side right item 1'),
-    ('17 nodes are counted anew in each term', [*RULE_LINES, term(O5, O1, O1), term(O5, FORTH, O1), term(O5, O2, SWAPPED), '06'],
-     ['rejected 17 term 2 node 2'], ' side right item 0'),
-    ("17 the earlier term's mark takes no number", [*RULE_LINES, term(O5, O1, O1), term(O5, FORTH, O1), term(O5, O1, FORTH), '06'],
-     ['rejected 17 term 2 node 1'], ''),
-    ('17 a term over several lines', [*RULE_LINES, term(O5_OF_3), term(O1), term(O1, O1), term(O5_OF_3, O1), term(FORTH), term(O2), '06'],
-     ['rejected 17 term 1 node 3'], ''),
-    ('17 each proof has its own',
-     [*RULE_LINES, term(O1), term(UNLISTED), '06', term(O5, O1, O1), term(O5, FORTH, O2), '06', term(O1), term(SWAPPED), '06'],
-     ['rejected 16 term 1', 'rejected 17 term 1 node 2', 'rejected 17 term 1 node 0'], ' side right item 0'),
-    ('17 the last of 64 items', [rule_line((1, [(1, 3, 1)] * 63 + [(0, 0)], [(1, 3, 1)] * 63 + [(0, 0)])), term(*[O3] * 63, O1),
-                                 term((3, 1, 1, 1), *[O3] * 62, O2), '06'], ['rejected 17 term 1 node 0'], ' side right item 63'),
-    ('17 variable 15', [rule_line((0, [(1, 7, 3), (0, 15), (0, 15), (0, 15)], [(0, 15)])), term((7, 3, 0, 0), O1, O1, O2), term((1, 0, 1, 0)), '06'],
-     ['rejected 17 term 1 node 0'], ' side left item 3'),
-]
 def offered(nodes, each=A_LINE):
     """the lines of an offered proof, without its end: so many nodes a line"""
     return [term(*nodes[at:at + each]) for at in range(0, len(nodes), each)]
@@ -318,25 +283,10 @@ def text(lines):
     return ''.join(line + '\n' for line in lines).encode()
 
 
-def wrong_steps():
-    """WHERE, and behind it every item of a pattern wrong in turn, and nodes of a long term"""
-    yield from WHERE
-    for name, rule, words, node, side, item in [*faulty.at_marks(), *faulty.of_300()]:
-        nodes = [tuple(words[at:at + 4]) for at in range(0, len(words), 4)]
-        detail = f" side {'left' if side == LEFT else 'right'} item {item}" if side else ''
-        yield f'17 {name}', [rule_line(rule), *offered(nodes), '06'], [f'rejected 17 term 1 node {node}'], detail
-
-
 def rows():
     """(name, input, output, whether the output was written without the reference)"""
-    for name, lines, printed in [*P_ROWS, *REFUSALS, *STEPS, *(row[:3] for row in wrong_steps()), *LARGE]:
+    for name, lines, printed in P_ROWS + REFUSALS + STEPS + LARGE:
         given = text(lines)
         yield (name, given, output(given), False) if printed is None else (name, given, text(printed), True)
     for name, given, printed in BYTES:
         yield name, given, printed, True
-
-
-def detailed():
-    """(name, input, output in detail, written without the reference) of the steps that go wrong"""
-    for name, lines, printed, detail in wrong_steps():
-        yield name, text(lines), text([*printed[:-1], printed[-1] + detail])

@@ -3,7 +3,6 @@
 NODES, RULES, CHILDREN, ITEMS, VARIABLES = 2048, 256, 8, 64, 16
 DISTANCE, TERMS, WORDS = 16383, 16384, 1048576
 DIGITS, AREA = 8192, 32768                                           # a line's digits, and the program's area in words
-NEITHER, LEFT, RIGHT = 0, 1, 2                                       # a rule's sides, as the library numbers them
 
 R7 = (7, [(1, 1, 0)], [(1, 2, 0)])                                   # o1 becomes o2
 R9 = (9, [(1, 5, 2), (0, 0), (0, 0)], [(0, 0)])                      # (o5 ?0 ?0) becomes ?0

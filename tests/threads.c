@@ -5,7 +5,7 @@
 #include <pthread.h>
 #include <stdio.h>
 
-enum { THREADS = 8, ROUNDS = 40, LEVELS = 6, NODES = 2 * LEVELS + 2, AREA = 33020 + 7, ROOM = 2048, KINDS = 5 };
+enum { THREADS = 8, ROUNDS = 40, LEVELS = 6, NODES = 2 * LEVELS + 2, AREA = 33020 + 7, ROOM = 2048, KINDS = 4 };
 
 /* a tower: two leaves that rule 7 joins, and g(x, x) over each, level by level, joined by congruences */
 static uint16_t nodes[NODES][10], connections[LEVELS + 1][5], rules[387];
@@ -13,8 +13,7 @@ static uint16_t nodes[NODES][10], connections[LEVELS + 1][5], rules[387];
 struct answers {
     uint16_t area[AREA], numbers[KINDS][NODES];
     uint64_t values[KINDS][NODES], written[NODES];
-    uint64_t areas[NODES], texts[NODES], wrong_nodes[KINDS][NODES], items[KINDS][NODES];
-    uint16_t sides[KINDS][NODES];
+    uint64_t areas[NODES], texts[NODES];
     uint8_t room[ROOM];
 };
 
@@ -49,15 +48,7 @@ static uint64_t sum_of(const void *bytes, size_t length)
 
 #define TABLES nodes[0], NODES * 10, rules, 387, connections[0], (LEVELS + 1) * 5
 
-/* the verdict on the proof in the area, and where it went wrong */
-static void check(struct answers *a, size_t kind, size_t k)
-{
-    a->numbers[kind][k] = erbighenti_check(TABLES, a->area, a->written[k], &a->values[kind][k], &a->wrong_nodes[kind][k], &a->sides[kind][k],
-                                           &a->items[kind][k]);
-}
-
-/* every node and its neighbours: a distance (of a pair that may not be joined), a query, the first term's text, the verdict on the proof, and
-   on the proof with another last operator, which is a marked one */
+/* every node and its neighbours: a distance (of a pair that may not be joined), a query, the first term's text, the verdict on the proof */
 static void call_all(struct answers *a)
 {
     for (uint16_t k = 0; k < NODES; k++) {
@@ -70,9 +61,7 @@ static void call_all(struct answers *a)
             pending += a->area[end + 1] - (size_t)1;
         a->numbers[2][k] = erbighenti_term_text(a->area, end, a->room, ROOM, &a->values[2][k]);
         a->texts[k] = sum_of(a->room, ROOM);
-        check(a, 3, k);
-        a->area[a->written[k] - 4] ^= 64;
-        check(a, 4, k);
+        a->numbers[3][k] = erbighenti_check(TABLES, a->area, a->written[k], &a->values[3][k]);
     }
 }
 
@@ -81,9 +70,7 @@ static unsigned equal(const struct answers *a, const struct answers *b)
     unsigned count = 0;
     for (size_t k = 0; k < NODES; k++) {
         for (size_t kind = 0; kind < KINDS; kind++)
-            count += a->numbers[kind][k] == b->numbers[kind][k] && a->values[kind][k] == b->values[kind][k] &&
-                     a->wrong_nodes[kind][k] == b->wrong_nodes[kind][k] && a->sides[kind][k] == b->sides[kind][k] &&
-                     a->items[kind][k] == b->items[kind][k];
+            count += a->numbers[kind][k] == b->numbers[kind][k] && a->values[kind][k] == b->values[kind][k];
         count += a->written[k] == b->written[k] && a->areas[k] == b->areas[k];
         count += a->texts[k] == b->texts[k];
     }
@@ -123,9 +110,7 @@ int main(int count, char **words)
         good += same[k];
         bad += other[k];
     }
-    printf("%u the same, %u others; the last query: %u %llu %llu, and rejected: %u %llu, node %llu side %u item %llu\n", good, bad,
-           alone.numbers[1][NODES - 1], (unsigned long long)alone.values[1][NODES - 1], (unsigned long long)alone.written[NODES - 1],
-           alone.numbers[4][NODES - 1], (unsigned long long)alone.values[4][NODES - 1], (unsigned long long)alone.wrong_nodes[4][NODES - 1],
-           alone.sides[4][NODES - 1], (unsigned long long)alone.items[4][NODES - 1]);
+    printf("%u the same, %u others; the last query: %u %llu %llu\n", good, bad, alone.numbers[1][NODES - 1],
+           (unsigned long long)alone.values[1][NODES - 1], (unsigned long long)alone.written[NODES - 1]);
     return bad != 0;
 }

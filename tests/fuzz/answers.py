@@ -1,7 +1,7 @@
 """What document 01 says of an input of the library's fuzzer: its words unpacked as tests/fuzz/library.c does it, read as tables, and judged
 and answered by tests/reference.py."""
 from inputs import AGAIN, CONNECTION, FILL, FLAT, LONG, NEXT, NODE, RULE, SIDE, moved
-from reference import Forest, Refused, answer, answered, judge_node, judge_rule, measured, term_end, term_words, verdict
+from reference import Forest, Refused, answer, answered, check, judge_node, judge_rule, measured, term_end, term_words
 from scope import CHILDREN, ITEMS
 
 HEAD, SLOTS = 9, [NODE, RULE, CONNECTION, FLAT]
@@ -100,15 +100,14 @@ def text(words, room):
 
 
 def told(given):
-    """the verdict (number, value, node, side, item), the distance (number, value), the query (number, distance, words) and the text (number,
-    bytes)"""
+    """the verdict (number, value), the distance (number, value), the query (number, distance, words) and the text (number, bytes)"""
     left, right, area, room, (nodes, rules, connections, words) = unpacked(given)
     spelled = answer(text, words, room)
     spelled = spelled if spelled[0] == 0 else (spelled[0], [])
     number, found = answer(judged, nodes, rules, connections)
     if number:
-        return (number, 0, 0, 0, 0), (number, 0), (number, 0, []), spelled
+        return (number, 0), (number, 0), (number, 0, []), spelled
     forest, listed = found
     number, proof = answer(answered, forest, left, right, area)
     queried = (0, proof[0], [w for term in proof[1] for w in term_words(term)]) if number == 0 else (number, 0, [])
-    return verdict(listed, words), answer(measured, forest, left, right), queried, spelled
+    return answer(check, listed, words), answer(measured, forest, left, right), queried, spelled

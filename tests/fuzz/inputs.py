@@ -5,7 +5,7 @@ import os, random, sys
 HERE = os.path.dirname(os.path.abspath(__file__))
 sys.path.insert(0, os.path.dirname(HERE))
 from reference import Refused, connection_words, node_words, query, rule_words
-from runs import P_ROWS, REFUSALS, STEPS, rows, text, to_and_fro, wrong_steps
+from runs import P_ROWS, REFUSALS, STEPS, rows, text, to_and_fro
 from scope import ITEMS, NODES, R7, R9, R10, R11, R12, RULES, TERMS, many
 from stored import parse, query_line, table_lines
 from tables import (among_large, by_rule, chain, changed_leaf, changed_root, comb, leaning, many_small, nested, random_table,
@@ -77,7 +77,7 @@ def library():
         yield packed(nodes, [R7], links, [], right, left, 64, at_end=0)
         # a short way in a table that has long ones
         yield packed(nodes, [R7], links, [], 0, 1)
-    for title, lines, *_ in [row for row in [*P_ROWS, *REFUSALS, *STEPS, *wrong_steps()] if len(row[1]) < 40]:
+    for title, lines, _ in [row for row in P_ROWS + REFUSALS + STEPS if len(row[1]) < 40]:
         try:
             nodes, listed, links, pairs, words = parse([line for line in lines if line[:2] in ('01', '02', '03', '04', '05')])
         except (ValueError, IndexError):

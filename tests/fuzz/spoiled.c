@@ -5,8 +5,7 @@
 extern int spoil;
 
 uint16_t spoiled_check(const uint16_t *nodes, size_t nodes_len, const uint16_t *rules, size_t rules_len, const uint16_t *connections,
-                       size_t connections_len, const uint16_t *words, size_t words_len, uint64_t *value, uint64_t *node, uint16_t *side,
-                       uint64_t *item);
+                       size_t connections_len, const uint16_t *words, size_t words_len, uint64_t *value);
 uint16_t spoiled_distance(const uint16_t *nodes, size_t nodes_len, const uint16_t *rules, size_t rules_len, const uint16_t *connections,
                           size_t connections_len, uint16_t left, uint16_t right, uint64_t *value);
 uint16_t spoiled_query(const uint16_t *nodes, size_t nodes_len, const uint16_t *rules, size_t rules_len, const uint16_t *connections,
@@ -15,11 +14,9 @@ uint16_t spoiled_query(const uint16_t *nodes, size_t nodes_len, const uint16_t *
 uint16_t spoiled_text(const uint16_t *words, size_t words_len, uint8_t *room, size_t room_len, uint64_t *written);
 
 uint16_t spoiled_check(const uint16_t *nodes, size_t nodes_len, const uint16_t *rules, size_t rules_len, const uint16_t *connections,
-                       size_t connections_len, const uint16_t *words, size_t words_len, uint64_t *value, uint64_t *node, uint16_t *side,
-                       uint64_t *item)
+                       size_t connections_len, const uint16_t *words, size_t words_len, uint64_t *value)
 {
-    uint16_t number = erbighenti_check(nodes, nodes_len, rules, rules_len, connections, connections_len, words, words_len, value, node, side,
-                                       item);
+    uint16_t number = erbighenti_check(nodes, nodes_len, rules, rules_len, connections, connections_len, words, words_len, value);
     if (spoil == 1 && number == 16) /* an unlisted rule is let pass */
         number = 0, *value = 2;
     if (spoil == 2 && number == 0 && *value > 2) /* the third term is refused */
@@ -34,22 +31,6 @@ uint16_t spoiled_check(const uint16_t *nodes, size_t nodes_len, const uint16_t *
         number = 0, *value = 2;
     if (spoil == 26 && number == 15) /* a number that is nobody's */
         number = 18;
-    if (spoil == 27 && number == 15) /* another number is told with a node */
-        *node = 1;
-    if (spoil == 28 && number == 0) /* and an accepted proof with an item */
-        *item = 1;
-    if (spoil == 29 && number == 17) /* the node behind the right one */
-        ++*node;
-    if (spoil == 30 && number == 17 && *node > 0) /* the node before it */
-        --*node;
-    if (spoil == 31 && number == 17 && *side) /* the side is lost */
-        *side = 0;
-    if (spoil == 32 && number == 17 && *side == 0) /* a side where there is none */
-        *side = ERBIGHENTI_LEFT;
-    if (spoil == 33 && number == 17 && *side == ERBIGHENTI_RIGHT) /* items of the right side are counted on */
-        *item += rules[1];
-    if (spoil == 34 && number == 17 && *side == ERBIGHENTI_LEFT && *item > 0) /* a variable is told where it stands first */
-        --*item;
     return number;
 }
 

@@ -2,7 +2,7 @@
 //! include/erbighenti.h has them for C.
 use crate::flat::Terms;
 use crate::numbers::Node;
-use crate::refusal::{Refusal, Rejection, RuleSide, Wrong};
+use crate::refusal::{Refusal, Rejection};
 
 // the library takes lengths of 64 bits
 const _: () = assert!(usize::BITS == 64);
@@ -20,9 +20,6 @@ mod library {
             words: *const u16,
             words_len: usize,
             value: *mut u64,
-            node: *mut u64,
-            side: *mut u16,
-            item: *mut u64,
         ) -> u16;
         pub fn erbighenti_distance(
             nodes: *const u16,
@@ -121,10 +118,10 @@ pub fn query<'a>(tables: Tables<'_>, left: Node, right: Node, area: &'a mut [u16
 /// The strict checker: the count of terms of an accepted proof. Each term behind the first is a step, with one mark: an instance of a listed
 /// rule at the marked place, and nothing else changed.
 ///
-/// Refused by 2 to 7 for the tables, 12 to 17 and 19 for the proof, with the term's place; and by 17 with where its step went wrong.
+/// Refused by 2 to 7 for the tables, 12 to 17 and 19 for the proof, with the term's place.
 #[allow(unsafe_code)]
 pub fn check(tables: Tables<'_>, words: &[u16]) -> Result<usize, Rejection> {
-    let (mut value, mut node, mut side, mut item) = (0, 0, 0, 0);
+    let mut value = 0;
     let Tables { nodes, rules, connections } = tables;
     // SAFETY: as in `query`.
     let number = unsafe {
@@ -138,27 +135,11 @@ pub fn check(tables: Tables<'_>, words: &[u16]) -> Result<usize, Rejection> {
             words.as_ptr(),
             words.len(),
             &mut value,
-            &mut node,
-            &mut side,
-            &mut item,
         )
     };
     match said(number) {
         Ok(()) => Ok(value as usize),
-        Err(refusal) => {
-            let wrong = (refusal == Refusal::NoStep).then(|| wrong_at(node as usize, side, item as usize));
-            Err(Rejection { refusal, place: value as usize, wrong })
-        }
-    }
-}
-
-/// The library gives the sides 0 (none), 1 and 2, which is proved.
-fn wrong_at(node: usize, side: u16, item: usize) -> Wrong {
-    match side {
-        0 => Wrong::AtNode(node),
-        1 => Wrong::AtMark { node, side: RuleSide::Left, item },
-        2 => Wrong::AtMark { node, side: RuleSide::Right, item },
-        _ => panic!("a side of a rule"),
+        Err(refusal) => Err(Rejection { refusal, place: value as usize }),
     }
 }
 

@@ -22,7 +22,7 @@ mod tables;
 pub use calls::{check, distance, query, term_text, Tables, Written};
 pub use flat::{Term, TermNode, Terms};
 pub use numbers::{Direction, Item, Justification, Node, Operator, Rule};
-pub use refusal::{Refusal, Rejection, RuleSide, Wrong};
+pub use refusal::{Refusal, Rejection};
 
 #[cfg(feature = "alloc")]
 pub use proof::Proof;

@@ -1,4 +1,4 @@
-//! Document 01's numbers: why a call was refused; and of a step that is none, where it went wrong.
+//! Document 01's numbers: why a call was refused.
 use core::fmt;
 
 /// Why a call was refused: document 01's numbers 1 to 17 and 19. The library gives the lowest that holds, in document 01's order. 18 is
@@ -114,71 +114,18 @@ impl fmt::Display for Refusal {
 
 impl core::error::Error for Refusal {}
 
-/// Which of a rule's two patterns.
-#[derive(Clone, Copy, Debug, PartialEq, Eq, PartialOrd, Ord, Hash)]
-pub enum RuleSide {
-    /// What the rule takes. It is tried first: on the term before where the mark is forward, on the marked term where it is backward.
-    Left,
-    /// What the rule makes of it, tried on the other term with what the left side bound.
-    Right,
-}
-
-/// Where a step went wrong: at the first node of the later term that is wrong, from 0, parents before their children.
-#[derive(Clone, Copy, Debug, PartialEq, Eq, Hash)]
-pub enum Wrong {
-    /// A node that is not marked has another operator, or another count of children, than the one in the term before.
-    AtNode(usize),
-    /// The rule of the marked node does not match there.
-    AtMark {
-        /// The marked node.
-        node: usize,
-        /// The side that does not match. Where neither does it is the left one.
-        side: RuleSide,
-        /// The first item of that side that does not fit, from 0 in the order of the rule's [`crate::Item`]s: an operator with another number
-        /// or count, or a variable that is bound to another term already.
-        item: usize,
-    },
-}
-
-impl Wrong {
-    /// The node of the later term.
-    pub const fn node(self) -> usize {
-        match self {
-            Wrong::AtNode(node) | Wrong::AtMark { node, .. } => node,
-        }
-    }
-}
-
-/// As the program prints it: `node 0`, and at a mark as it does where it is asked for detail: `node 0 side left item 2`.
-impl fmt::Display for Wrong {
-    fn fmt(&self, f: &mut fmt::Formatter<'_>) -> fmt::Result {
-        write!(f, "node {}", self.node())?;
-        match self {
-            Wrong::AtNode(_) => Ok(()),
-            Wrong::AtMark { side: RuleSide::Left, item, .. } => write!(f, " side left item {item}"),
-            Wrong::AtMark { side: RuleSide::Right, item, .. } => write!(f, " side right item {item}"),
-        }
-    }
-}
-
-/// Why the strict checker did not accept a proof, at which of its terms, and where in it a step went wrong.
+/// Why the strict checker did not accept a proof, and at which of its terms.
 #[derive(Clone, Copy, Debug, PartialEq, Eq, Hash)]
 pub struct Rejection {
     /// Why.
     pub refusal: Refusal,
     /// The term's place, from 0. It is 0 too where no one term is at fault: for tables (2 to 7), 12, 13 and 19.
     pub place: usize,
-    /// Where the step to that term went wrong: told for [`Refusal::NoStep`] (17), and for no other.
-    pub wrong: Option<Wrong>,
 }
 
 impl fmt::Display for Rejection {
     fn fmt(&self, f: &mut fmt::Formatter<'_>) -> fmt::Result {
-        write!(f, "rejected {} term {}", self.refusal.number(), self.place)?;
-        if let Some(wrong) = self.wrong {
-            write!(f, " {wrong}")?;
-        }
-        write!(f, ": {}", self.refusal.words())
+        write!(f, "rejected {} term {}: {}", self.refusal.number(), self.place, self.refusal.words())
     }
 }
 

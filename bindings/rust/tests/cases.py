@@ -6,15 +6,15 @@ usage: cases.py SEED TABLES
     entries NODE , NODE ; RULE , RULE ; CONNECTION , CONNECTION
     query LEFT RIGHT AREA = NUMBER DISTANCE WORDS
     distance LEFT RIGHT = NUMBER DISTANCE
-    check WORDS = NUMBER VALUE NODE SIDE ITEM
+    check WORDS = NUMBER VALUE
     text ROOM WORDS = NUMBER TEXT
 """
 import os, random, sys
 
 sys.path.insert(0, os.path.join(os.path.dirname(os.path.abspath(__file__)), '..', '..', '..', 'tests'))
 import proofs
-from reference import (Refused, answer, connection_words, judge_tables, measured, node_words, query, rule_words, term_end, term_text,
-                       term_words, verdict)
+from reference import (Refused, answer, check, connection_words, judge_tables, measured, node_words, query, rule_words, term_end, term_text,
+                       term_words)
 from scope import CHILDREN, ITEMS, R7, R9, WORDS
 from tables import by_rule, congruent, random_table, tower
 
@@ -51,8 +51,8 @@ def read(nodes, rules, connections):
 # The calls, over words.
 
 def checked(nodes, rules, connections, words):
-    number, _ = answer(judge_tables, nodes, rules, connections)
-    return (number, 0, 0, 0, 0) if number else verdict(rules, words)
+    judge_tables(nodes, rules, connections)
+    return check(rules, words)
 
 
 def distance(nodes, rules, connections, left, right):
@@ -102,7 +102,7 @@ def ask(rng, tables, offered):
     far, words = value if number == 0 else (0, [])
     line('query', left, right, area, '=', number, far, words)
     line('distance', left, right, '=', *answer(distance, *read_tables, left, right))
-    line('check', offered, '=', *checked(*read_tables, offered))
+    line('check', offered, '=', *answer(checked, *read_tables, offered))
     term = rng.choice((words or offered, offered))
     if rng.random() < 0.8:
         term = term[:term_end(term, 0)]
@@ -156,8 +156,8 @@ def main(seed, count):
         ask(rng, tables, whole)
         if several != terms:
             ask(rng, tables, [w for t in several for w in t])
-        for change in (proofs.damaged, proofs.damaged, proofs.changed):
-            ask(rng, tables, change(rng, terms))
+        for _ in range(2):
+            ask(rng, tables, proofs.damaged(rng, terms))
         ask(rng, damaged(rng, tables), whole)
 
 

@@ -11,16 +11,14 @@ use borrow.Author.Tests.{eq-eqb, ne_eqb, lt-ltb, le-ltb}
 use lib.Dec.{eqb}
 use lib.ListN.{length}
 use Rattle.model.specs.Tables.{rule_table}
-use Rattle.model.specs.declared.Wrong.{Wrong}
-use Rattle.model.specs.declared.Wrong.TheVariants.{Nowhere, AtNode, AtMark}
 use Rattle.model.specs.declared.Verdict.{Verdict}
 use Rattle.model.specs.declared.Verdict.TheVariants.{Accepted, Rejected}
 use Rattle.model.specs.Judged.{good}
 use Rattle.model.specs.Limits.{term_limit, word_limit}
 use Rattle.model.specs.Term.{Terms, no_terms, tree, Term, one, count, marks, words, read}
 use Rattle.model.specs.Rule.{Rule}
-use Rattle.model.specs.Step.{wrong, unlisted}
-use Rattle.model.specs.Verdict.{reject_if, reject_at, later_verdict, chain_verdict, terms_verdict, verdict}
+use Rattle.model.specs.Step.{step, unlisted}
+use Rattle.model.specs.Verdict.{reject_if, later_verdict, chain_verdict, terms_verdict, verdict}
 use Rattle.terms.specs.Place.{TermAt, RowAt, Well, EndsAt}
 use Rattle.terms.proofs.Place.{row-tree, row-well, end_same, term-row, read-row}
 use Rattle.terms.specs.declared.WholeTerms.TheVariants.{Count, Broken}
@@ -28,45 +26,47 @@ use Rattle.terms.specs.Whole.{whole_of}
 use Rattle.terms.proofs.Read.{read-words}
 use Rattle.marks.specs.Marks.{HasRow, MarkedIs}
 use Rattle.rule_table.specs.Entries.{AcceptedRules}
-use Rattle.checker.specs.Check.{Flaw, flaw_if, flaw_at, flaw_of, FlawIs, chain_of, ChainIs}
+use Rattle.checker.specs.Check.{fault_if, fault_of, FaultIs, chain_of, ChainIs}
 
--- the first flaw that holds
+-- the first fault that holds
 module _ (rs : List Rule) (s t : Terms) where
-  pub flaw-marks : (marks t ≡ 1 → ⊥) → some (record { number = 15; where-wrong = Nowhere }) ≡ flaw_of rs s t
-  unfolding flaw_of
-  flaw-marks a = rw (ne_eqb (marks t) 1 a)
+  pub fault-marks : (marks t ≡ 1 → ⊥) → 15 ≡ fault_of rs s t
+  unfolding fault_of
+  fault-marks a = rw (ne_eqb (marks t) 1 a)
 
-  pub flaw-unlisted : marks t ≡ 1 → unlisted rs t ≡ true → some (record { number = 16; where-wrong = Nowhere }) ≡ flaw_of rs s t
-  unfolding flaw_of
-  flaw-unlisted a b = rw (eq-eqb (marks t) 1 a, b)
+  pub fault-unlisted : marks t ≡ 1 → unlisted rs t ≡ true → 16 ≡ fault_of rs s t
+  unfolding fault_of
+  fault-unlisted a b = rw (eq-eqb (marks t) 1 a, b)
 
-  pub flaw-step : marks t ≡ 1 → unlisted rs t ≡ false → (w : Wrong) → wrong rs 0 s t ≡ w → flaw_at w ≡ flaw_of rs s t
-  unfolding flaw_of
-  flaw-step a b w c = rw (eq-eqb (marks t) 1 a, b, c)
+  pub fault-step : marks t ≡ 1 → unlisted rs t ≡ false → step rs s t ≡ false → 17 ≡ fault_of rs s t
+  unfolding fault_of
+  fault-step a b c = rw (eq-eqb (marks t) 1 a, b, c)
 
--- 17 is given where the step goes wrong somewhere
-pub flaw-at : (w : Wrong) → (w ≡ Nowhere → ⊥) → some (record { number = 17; where-wrong = w }) ≡ flaw_at w
-flaw-at Nowhere h = absurd (h refl)
-flaw-at (AtNode p) h = refl
-flaw-at (AtMark p s i) h = refl
+  pub fault-none : marks t ≡ 1 → unlisted rs t ≡ false → step rs s t ≡ true → 0 ≡ fault_of rs s t
+  unfolding fault_of
+  fault-none a b c = rw (eq-eqb (marks t) 1 a, b, c)
 
--- a flaw is the verdict, and where there is none the terms behind decide
-after_flaw : Option Flaw → ℕ → Verdict → Verdict
-after_flaw none k v = v
-after_flaw (some x) k v = Rejected x.number k x.where-wrong
+-- a fault is the verdict, and where there is none the terms behind decide
+after_fault : ℕ → ℕ → Verdict → Verdict
+after_fault zero k v = v
+after_fault (suc n) k v = Rejected (suc n) k
 
-by-flaw : (a b : Bool) (w : Wrong) (k : ℕ) (v : Verdict)
-    → reject_if a 15 k (reject_if b 16 k (reject_at w k v)) ≡ after_flaw (flaw_if a 15 (flaw_if b 16 (flaw_at w))) k v
-unfolding after_flaw
-by-flaw true b w k v = refl
-by-flaw false true w k v = refl
-by-flaw false false Nowhere k v = refl
-by-flaw false false (AtNode p) k v = refl
-by-flaw false false (AtMark p s i) k v = refl
+by-fault : (a b c : Bool) (k : ℕ) (v : Verdict)
+    → reject_if a 15 k (reject_if b 16 k (reject_if c 17 k v)) ≡ after_fault (fault_if a 15 (fault_if b 16 (fault_if c 17 0))) k v
+unfolding after_fault
+by-fault true b c k v = refl
+by-fault false true c k v = refl
+by-fault false false true k v = refl
+by-fault false false false k v = refl
 
-later-by-flaw : (rs : List Rule) (k : ℕ) (s t : Terms) (v : Verdict) → later_verdict rs k s t v ≡ after_flaw (flaw_of rs s t) k v
-unfolding later_verdict flaw_of
-later-by-flaw rs k s t v = by-flaw (not (eqb (marks t) 1)) (unlisted rs t) (wrong rs 0 s t) k v
+later-by-fault : (rs : List Rule) (k : ℕ) (s t : Terms) (v : Verdict) → later_verdict rs k s t v ≡ after_fault (fault_of rs s t) k v
+unfolding later_verdict fault_of
+later-by-fault rs k s t v = by-fault (not (eqb (marks t) 1)) (unlisted rs t) (not (step rs s t)) k v
+
+some-fault : (n k : ℕ) (v : Verdict) → (n ≡ 0 → ⊥) → after_fault n k v ≡ Rejected n k
+unfolding after_fault
+some-fault zero k v h = absurd (h refl)
+some-fault (suc n) k v h = refl
 
 -- where the walk over the later terms is: the verdict on what is left behind the term at `before` is that on the whole row
 pub record LaterRest (rs : List Rule) (ws : List ℕ) (n before at k : ℕ) (f : Terms) : Type 0 where
@@ -100,9 +100,9 @@ module _ (rws ws : List ℕ) (n : ℕ) where
 
   module _ (before at k : ℕ) (w : LaterHere rws ws n before at k) where
     next-behind : (rs : List Rule) (f : Terms) (s : Term) (m : ℕ) → n - k ≡ suc m → (g : Terms) → RowAt ws at (suc m) g
-        → chain_verdict rs k (one s) g ≡ chain_of rs f → ((e : ℕ) (t : Term) → TermAt ws at e t → none ≡ flaw_of rs (one s) (one t))
+        → chain_verdict rs k (one s) g ≡ chain_of rs f → ((e : ℕ) (t : Term) → TermAt ws at e t → 0 ≡ fault_of rs (one s) (one t))
         → (stop : ℕ) → EndsAt ws at stop → LaterRest rs ws n at stop (k + 1) f
-    unfolding count chain_verdict after_flaw
+    unfolding count chain_verdict after_fault
     next-behind rs f s m e no_terms h same fault stop x = absurd (omega (arith, h.counted))
     next-behind rs f s m e (tree o mk ks r) h same fault stop x =
         let t = row-tree ws at m o mk ks r h in
@@ -116,11 +116,11 @@ module _ (rws ws : List ℕ) (n : ℕ) where
           rest = r;
           row = rw d (rw q at t.behind);
           same =
-              ap (λ (x : Option Flaw). after_flaw x k (chain_verdict rs (suc k) later r)) (fault t.stop _ t.term)
-              ∙ (sym (later-by-flaw rs k (one s) later (chain_verdict rs (suc k) later r)) ∙ same);
+              ap (λ (n : ℕ). after_fault n k (chain_verdict rs (suc k) later r)) (fault t.stop _ t.term)
+              ∙ (sym (later-by-fault rs k (one s) later (chain_verdict rs (suc k) later r)) ∙ same);
         })
 
-    pub later-next : k < n → FlawIs rws ws before at none → (stop : ℕ) → EndsAt ws at stop → LaterHere rws ws n at stop (k + 1)
+    pub later-next : k < n → FaultIs rws ws before at 0 → (stop : ℕ) → EndsAt ws at stop → LaterHere rws ws n at stop (k + 1)
     later-next l fault stop x =
         record {
           low = omega arith;
@@ -132,22 +132,22 @@ module _ (rws ws : List ℕ) (n : ℕ) where
               (λ d t i. fault rs are at d b.term t b.is i) stop x;
         }
 
-    found-behind : (rs : List Rule) (f : Terms) (s : Term) (x : Flaw) (m : ℕ) (g : Terms) → RowAt ws at (suc m) g
-        → chain_verdict rs k (one s) g ≡ chain_of rs f → ((e : ℕ) (t : Term) → TermAt ws at e t → some x ≡ flaw_of rs (one s) (one t))
-        → Rejected x.number k x.where-wrong ≡ chain_of rs f
-    unfolding count chain_verdict after_flaw
-    found-behind rs f s x m no_terms h same is = absurd (omega (arith, h.counted))
-    found-behind rs f s x m (tree o mk ks r) h same is =
+    found-behind : (rs : List Rule) (f : Terms) (s : Term) (fault : ℕ) → (fault ≡ 0 → ⊥) → (m : ℕ) (g : Terms) → RowAt ws at (suc m) g
+        → chain_verdict rs k (one s) g ≡ chain_of rs f → ((e : ℕ) (t : Term) → TermAt ws at e t → fault ≡ fault_of rs (one s) (one t)) → Rejected fault k ≡ chain_of rs f
+    unfolding count chain_verdict
+    found-behind rs f s fault z m no_terms h same is = absurd (omega (arith, h.counted))
+    found-behind rs f s fault z m (tree o mk ks r) h same is =
         let t = row-tree ws at m o mk ks r h in
         let later = tree o mk ks no_terms in
         let v = chain_verdict rs (suc k) later r in
-        ap (λ (y : Option Flaw). after_flaw y k v) (is t.stop _ t.term) ∙ (sym (later-by-flaw rs k (one s) later v) ∙ same)
+        sym (some-fault fault k v z)
+        ∙ (ap (λ (n : ℕ). after_fault n k v) (is t.stop _ t.term) ∙ (sym (later-by-fault rs k (one s) later v) ∙ same))
 
-    pub later-found : k < n → (x : Flaw) → FlawIs rws ws before at (some x) → ChainIs rws ws n (Rejected x.number k x.where-wrong)
-    later-found l x is rs are f h =
+    pub later-found : k < n → (fault : ℕ) → (fault ≡ 0 → ⊥) → FaultIs rws ws before at fault → ChainIs rws ws n (Rejected fault k)
+    later-found l fault z is rs are f h =
         let b = w.here rs are f h in
         let e : n - k ≡ suc (n - suc k) = omega arith in
-        found-behind rs f b.term x (n - suc k) b.rest (rw e at b.row) b.same (λ d t i. is rs are at d b.term t b.is i)
+        found-behind rs f b.term fault z (n - suc k) b.rest (rw e at b.row) b.same (λ d t i. is rs are at d b.term t b.is i)
 
     done-behind : (rs : List Rule) (f : Terms) (s : Term) (g : Terms) → RowAt ws at 0 g → chain_verdict rs k (one s) g ≡ chain_of rs f → Accepted k ≡ chain_of rs f
     unfolding count chain_verdict
@@ -175,12 +175,12 @@ module _ (rws ws : List ℕ) (n : ℕ) where
 
 -- the verdict on a row of terms: 19 for terms, 14, then the later ones
 module _ (rs : List Rule) (ws : List ℕ) where
-  pub terms-many : (n : ℕ) (f : Terms) → RowAt ws 0 n f → term_limit < n → Rejected 19 0 Nowhere ≡ terms_verdict rs (some f)
+  pub terms-many : (n : ℕ) (f : Terms) → RowAt ws 0 n f → term_limit < n → Rejected 19 0 ≡ terms_verdict rs (some f)
   unfolding terms_verdict count
   terms-many n no_terms h l = absurd (omega (arith, h.counted))
   terms-many n (tree o m k f) h l = rw (lt-ltb term_limit (suc (count f)) (omega (arith, h.counted)))
 
-  pub terms-marked : (n : ℕ) (f : Terms) → RowAt ws 0 n f → 0 < n → n ≤ term_limit → MarkedIs ws 0 1 true → Rejected 14 0 Nowhere ≡ terms_verdict rs (some f)
+  pub terms-marked : (n : ℕ) (f : Terms) → RowAt ws 0 n f → 0 < n → n ≤ term_limit → MarkedIs ws 0 1 true → Rejected 14 0 ≡ terms_verdict rs (some f)
   unfolding terms_verdict count
   terms-marked zero f h p l m = absurd (omega arith)
   terms-marked (suc n) no_terms h p l m = absurd (omega (arith, h.counted))
@@ -197,11 +197,11 @@ module _ (rs : List Rule) (ws : List ℕ) where
       rw (le-ltb term_limit (suc (count f)) (omega (arith, h.counted)), ← m (tree o mk k no_terms) (term-row ws 0 t.stop _ t.term))
 
 -- the verdict on words: 19 for words, 12, 13, then the terms
-pub words-many : (rs : List Rule) (ws : List ℕ) → word_limit < length ws → Rejected 19 0 Nowhere ≡ verdict rs ws
+pub words-many : (rs : List Rule) (ws : List ℕ) → word_limit < length ws → Rejected 19 0 ≡ verdict rs ws
 unfolding verdict
 words-many rs ws l = rw (lt-ltb word_limit (length ws) l)
 
-pub words-none : (rs : List Rule) (ws : List ℕ) → length ws ≡ 0 → Rejected 12 0 Nowhere ≡ verdict rs ws
+pub words-none : (rs : List Rule) (ws : List ℕ) → length ws ≡ 0 → Rejected 12 0 ≡ verdict rs ws
 unfolding verdict terms_verdict read
 words-none rs [] e = refl
 words-none rs (w ∷ ws) e = absurd (omega arith)
@@ -229,7 +229,7 @@ broken-by : (o : Option Terms) → whole_of o ≡ Broken → o ≡ none
 broken-by none e = refl
 broken-by (some f) e = let z : ◌≡◌ {A = ℕ} 0 1 = cc in absurd (omega arith)
 
-pub broken : (rs : List Rule) (ws : List ℕ) → length ws ≤ word_limit → whole_of (read ws) ≡ Broken → Rejected 13 0 Nowhere ≡ verdict rs ws
+pub broken : (rs : List Rule) (ws : List ℕ) → length ws ≤ word_limit → whole_of (read ws) ≡ Broken → Rejected 13 0 ≡ verdict rs ws
 unfolding terms_verdict
 broken rs ws l e = words-read rs ws none l (broken-by (read ws) e)
 

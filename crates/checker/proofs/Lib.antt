@@ -1,5 +1,4 @@
 pub mod Steps
-pub mod Before
 pub mod Verdicts
 pub mod DemandTwo
 pub mod Positions
@@ -9,8 +8,6 @@ pub mod Written
 pub mod Front
 pub mod Split
 pub mod Later
-pub mod Numbers
-pub mod Astray
 pub mod Tests
 pub mod Faults
 pub mod Only

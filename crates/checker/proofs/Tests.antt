@@ -12,14 +12,14 @@ use borrow.Author.Tests.{eq-eqb, ne_eqb}
 use lib.Dec.{eqb}
 use Rattle.model.specs.Term.{Mark, unmarked, marked, Terms, no_terms, tree, marks}
 use Rattle.model.specs.Rule.{Rule, listed, is_listed}
-use Rattle.model.specs.Step.{some_mark, is_mark, names_unlisted, unlisted}
+use Rattle.model.specs.Step.{Step, step, some_mark, is_mark, names_unlisted, unlisted}
 use Rattle.terms.specs.Place.{Decides}
-use Rattle.checker.specs.Wrong.{Marks}
-use Rattle.checker.specs.Fault.{Somewhere, Unknown, NotOne}
+use Rattle.checker.specs.Fault.{Somewhere, Marks, Unknown, NotOne}
 use Rattle.terms.proofs.Marks.{no-mark, none_found}
 use Rattle.checker.proofs.Positions.{one_place, two-marks}
+use Rattle.checker.proofs.Steps.{step-sound, step-complete}
 
--- a test of one of two conditions
+-- a test of one of two conditions, and of both
 either : (a b : Bool) (P Q : Type 0) → Decides a P → Decides b Q → Decides (a || b) (P ⊎ Q)
 either true b P Q p q = inl p
 either false true P Q p q = inr q
@@ -28,6 +28,10 @@ either false false P Q p q = neither
     neither : P ⊎ Q → ⊥
     neither (inl x) = p x
     neither (inr x) = q x
+
+pub opposite : (a : Bool) (P : Type 0) → Decides a P → Decides (not a) (P → ⊥)
+opposite true P p = λ n. n p
+opposite false P p = p
 
 somewhere : (p : Mark → Bool) (P : Mark → Type 0) → ((m : Mark) → Decides (p m) (P m)) → (f : Terms) → Decides (some_mark p f) (Somewhere P f)
 unfolding some_mark Somewhere
@@ -82,3 +86,10 @@ not-one t =
 pub is-unlisted : (rs : List Rule) (t : Terms) → Decides (unlisted rs t) (Somewhere (Unknown rs) t)
 unfolding unlisted
 is-unlisted rs = somewhere (names_unlisted rs) (Unknown rs) (unknown rs)
+
+pub is-step : (rs : List Rule) (s t : Terms) → Decides (step rs s t) (Step rs s t)
+is-step rs s t = by (step rs s t) refl
+  where
+    by : (b : Bool) → step rs s t ≡ b → Decides b (Step rs s t)
+    by true e = step-sound rs s t e
+    by false e = λ h. true≢false (sym (step-complete rs s t h) ∙ e)

@@ -8,24 +8,17 @@ use native.Mathlib.Omega.{arith}
 use borrow.Author.Tests.{eqb-true, eq-eqb, ltb-false, le-ltb, not-false}
 use lib.Dec.{eqb, ltb}
 use lib.ListN.{length}
-use Rattle.model.specs.declared.Wrong.{Wrong}
-use Rattle.model.specs.declared.Wrong.TheVariants.{Nowhere, AtNode, AtMark}
 use Rattle.model.specs.declared.Verdict.{Verdict}
 use Rattle.model.specs.declared.Verdict.TheVariants.{Accepted}
 use Rattle.model.specs.Limits.{term_limit, word_limit}
 use Rattle.model.specs.Term.{Terms, no_terms, tree, count, marks, read}
 use Rattle.model.specs.Rule.{Rule}
-use Rattle.model.specs.Step.{wrong, some_mark, is_mark, unlisted}
-use Rattle.model.specs.Verdict.{Later, Chain, Strict, Proves, reject_if, reject_at, later_verdict, chain_verdict, terms_verdict, verdict}
+use Rattle.model.specs.Step.{step, some_mark, is_mark, unlisted}
+use Rattle.model.specs.Verdict.{Later, Chain, Strict, Proves, reject_if, later_verdict, chain_verdict, terms_verdict, verdict}
 use Rattle.terms.proofs.Read.{read-words, reads-read}
-use Rattle.checker.proofs.Steps.{nowhere-step, step-listed}
+use Rattle.checker.proofs.Steps.{step-sound, step-complete, step-listed}
 
--- what was not rejected comes from behind the test, and behind the step
-pub right : (w : Wrong) (k : ℕ) (v : Verdict) (m : ℕ) → reject_at w k v ≡ Accepted m → (w ≡ Nowhere) × (v ≡ Accepted m)
-right Nowhere k v m h = (refl, h)
-right (AtNode p) k v m h = let z : ◌≡◌ {A = ℕ} 0 1 = cc in absurd (omega arith)
-right (AtMark p s i) k v m h = let z : ◌≡◌ {A = ℕ} 0 1 = cc in absurd (omega arith)
-
+-- what was not rejected comes from behind the test
 pub passed : (t : Bool) (n k : ℕ) (v : Verdict) (m : ℕ) → reject_if t n k v ≡ Accepted m → (t ≡ false) × (v ≡ Accepted m)
 passed true n k v m h = let z : ◌≡◌ {A = ℕ} 0 1 = cc in absurd (omega arith)
 passed false n k v m h = (refl, h)
@@ -36,13 +29,13 @@ unfolding later_verdict
 later-sound rs k s t v n h =
     let (a, h₁) = passed (not (eqb (marks t) 1)) 15 k _ n h in
     let (b, h₂) = passed (unlisted rs t) 16 k _ n h₁ in
-    let (c, h₃) = right (wrong rs 0 s t) k v n h₂ in
-    (record { one_mark = eqb-true _ _ (not-false _ a); arises = (nowhere-step rs 0 s t).0 c }, h₃)
+    let (c, h₃) = passed (not (step rs s t)) 17 k v n h₂ in
+    (record { one_mark = eqb-true _ _ (not-false _ a); arises = step-sound rs s t (not-false _ c) }, h₃)
 
 pub later-complete : (rs : List Rule) (k : ℕ) (s t : Terms) (v : Verdict) → Later rs s t → later_verdict rs k s t v ≡ v
 unfolding later_verdict
 later-complete rs k s t v l =
-    rw (eq-eqb _ _ l.one_mark, step-listed rs s t l.arises (omega (arith, l.one_mark)), (nowhere-step rs 0 s t).1 l.arises)
+    rw (eq-eqb _ _ l.one_mark, step-listed rs s t l.arises (omega (arith, l.one_mark)), step-complete rs s t l.arises)
 
 pub chain-sound : (rs : List Rule) (k : ℕ) (s f : Terms) (n : ℕ) → chain_verdict rs k s f ≡ Accepted n → Chain rs s f × (n ≡ k + count f)
 unfolding chain_verdict Chain count

@@ -1,40 +1,39 @@
 -- What the checker's parts answer, over an accepted rule table whose rules are rs.
 -- Assumes nothing.
 use Rattle.std.specs.Prelude.{ℕ, Bool, true, false, not, List, ◌≡◌, eqb}
-use Rattle.std.proofs.Math.Option.{Option, none, some}
+use Rattle.std.proofs.Math.Option.{some}
 use Rattle.model.specs.declared.Direction.{Direction}
-use Rattle.model.specs.declared.Fit.{Fit}
-use Rattle.model.specs.declared.Wrong.{Wrong}
-use Rattle.model.specs.declared.Wrong.TheVariants.{Nowhere, AtNode, AtMark}
 use Rattle.model.specs.declared.Verdict.{Verdict}
 use Rattle.model.specs.declared.Verdict.TheVariants.{Accepted}
 use Rattle.model.specs.Judged.{good}
 use Rattle.model.specs.Term.{marked, Terms, no_terms, tree, Term, one, marks}
-use Rattle.model.specs.Pattern.{fit}
+use Rattle.model.specs.Pattern.{fits}
 use Rattle.model.specs.Rule.{Rule}
 use Rattle.model.specs.Tables.{rule_entry, rule_table}
-use Rattle.model.specs.Step.{left_of, right_of, wrong, unlisted}
+use Rattle.model.specs.Step.{left_of, right_of, step, unlisted}
 use Rattle.model.specs.Verdict.{chain_verdict, terms_verdict, verdict}
 use Rattle.terms.specs.Place.{TermAt, RowAt, EndsAt}
 use Rattle.marks.specs.Marks.{OneAt}
+use Rattle.matching.specs.declared.Fit.{Fit}
+use Rattle.matching.specs.Match.{is_fit}
 use Rattle.checker.specs.declared.Following.{Following}
 use Rattle.checker.specs.declared.Following.TheVariants.{Ends, Fault}
 
--- r is how the rule of entry i fits the term at a as its left side and the term at b as its right side
+-- r says whether the rule of entry i makes the term at a its left side and the term at b its right side
 abbrev pub EntryFits : List ℕ → ℕ → List ℕ → ℕ → ℕ → Fit → Type 0
 EntryFits rws i ws a b r =
     (x : Rule) → rule_entry rws i ≡ some x → (e e' : ℕ) (t u : Term) → TermAt ws a e t → TermAt ws b e' u
-    → r ≡ fit x.left x.right (one t) (one u)
+    → is_fit r ≡ fits x.left x.right (one t) (one u)
 
--- how a rule, read one way, fits a term s and a term t behind it
-abbrev pub fit_by : Rule → Direction → Terms → Terms → Fit
-fit_by x d s t = fit x.left x.right (left_of d s t) (right_of d s t)
+-- whether a rule, read one way, allows a term t to follow a term s
+abbrev pub fits_by : Rule → Direction → Terms → Terms → Bool
+fits_by x d s t = fits x.left x.right (left_of d s t) (right_of d s t)
 
--- and how it does, read as the mark at its root says, with the term at b behind the term at a
+-- and whether, read as the mark at its root says, it allows the term at b to follow the term at a
 abbrev pub MarkFits : List ℕ → ℕ → List ℕ → ℕ → ℕ → Fit → Type 0
 MarkFits rws i ws a b r =
     (x : Rule) → rule_entry rws i ≡ some x → (e e' : ℕ) (t u : Term) → TermAt ws a e t → TermAt ws b e' u
-    → (d : Direction) (n : ℕ) → u.mark ≡ marked d n → r ≡ fit_by x d (one t) (one u)
+    → (d : Direction) (n : ℕ) → u.mark ≡ marked d n → is_fit r ≡ fits_by x d (one t) (one u)
 
 -- a term from `at` to `end` with one mark, behind so many nodes, stands behind a term
 pub record Marked (ws : List ℕ) (before at nodes end : ℕ) : Type 0 where
@@ -44,40 +43,30 @@ pub record Marked (ws : List ℕ) (before at nodes end : ℕ) : Type 0 where
   pub is_l : TermAt ws at end later
   pub mark : OneAt ws at end nodes end later
 
--- r is where the step from the term at a to the term at b goes wrong
-abbrev pub StepIs : List ℕ → List ℕ → ℕ → ℕ → Wrong → Type 0
+-- r says whether the term at b is a step from the term at a
+abbrev pub StepIs : List ℕ → List ℕ → ℕ → ℕ → Bool → Type 0
 StepIs rws ws a b r =
     (rs : List Rule) → rule_table rws ≡ good rs → (e e' : ℕ) (t u : Term) → TermAt ws a e t → TermAt ws b e' u
-    → r ≡ wrong rs 0 (one t) (one u)
+    → r ≡ step rs (one t) (one u)
 
--- why a later term is refused: by which number, and for 17 where
-pub record Flaw : Type 0 where
-  pub number : ℕ
-  pub where-wrong : Wrong
+-- by 15, 16, 17 in this order: the first that holds, or 0
+abbrev pub fault_if : Bool → ℕ → ℕ → ℕ
+fault_if true n f = n
+fault_if false n f = f
 
--- by 15, 16, 17 in this order: the first that holds, or none
-abbrev pub flaw_if : Bool → ℕ → Option Flaw → Option Flaw
-flaw_if true n f = some (record { number = n; where-wrong = Nowhere })
-flaw_if false n f = f
+unfoldable pub fault_of : List Rule → Terms → Terms → ℕ
+unfolding step marks unlisted
+fault_of rs s t = fault_if (not (eqb (marks t) 1)) 15 (fault_if (unlisted rs t) 16 (fault_if (not (step rs s t)) 17 0))
 
-abbrev pub flaw_at : Wrong → Option Flaw
-flaw_at Nowhere = none
-flaw_at (AtNode p) = some (record { number = 17; where-wrong = AtNode p })
-flaw_at (AtMark p s i) = some (record { number = 17; where-wrong = AtMark p s i })
-
-unfoldable pub flaw_of : List Rule → Terms → Terms → Option Flaw
-unfolding wrong marks unlisted
-flaw_of rs s t = flaw_if (not (eqb (marks t) 1)) 15 (flaw_if (unlisted rs t) 16 (flaw_at (wrong rs 0 s t)))
-
-abbrev pub FlawIs : List ℕ → List ℕ → ℕ → ℕ → Option Flaw → Type 0
-FlawIs rws ws before at r =
+abbrev pub FaultIs : List ℕ → List ℕ → ℕ → ℕ → ℕ → Type 0
+FaultIs rws ws before at r =
     (rs : List Rule) → rule_table rws ≡ good rs → (e e' : ℕ) (s t : Term) → TermAt ws before e s → TermAt ws at e' t
-    → r ≡ flaw_of rs (one s) (one t)
+    → r ≡ fault_of rs (one s) (one t)
 
--- a later term has no flaw, and ends there; or it has one
+-- a later term has no fault, and ends there; or it has one
 abbrev pub FollowsIs : List ℕ → List ℕ → ℕ → ℕ → Following → Type 0
-FollowsIs rws ws before at (Ends e) = EndsAt ws at e × FlawIs rws ws before at none
-FollowsIs rws ws before at (Fault n w) = FlawIs rws ws before at (some (record { number = n; where-wrong = w }))
+FollowsIs rws ws before at (Ends e) = EndsAt ws at e × FaultIs rws ws before at 0
+FollowsIs rws ws before at (Fault n) = (n ≡ 0 → ⊥) × FaultIs rws ws before at n
 
 -- the verdict on the later terms of a row, and on the row
 abbrev pub chain_of : List Rule → Terms → Verdict

@@ -5,21 +5,22 @@
 use Rattle.std.specs.Prelude.{ℕ, zero, suc, ◌≤◌, ◌<◌, List, [], ◌⊎◌, ◌≡◌, length}
 use Rattle.std.proofs.Math.Option.{none}
 use Rattle.model.specs.declared.Direction.{Direction}
-use Rattle.model.specs.declared.Wrong.{Wrong}
-use Rattle.model.specs.declared.Wrong.TheVariants.{Nowhere}
 use Rattle.model.specs.Limits.{term_limit, word_limit}
 use Rattle.model.specs.Term.{Mark, unmarked, marked, Terms, no_terms, tree, Term, one, count, Reads}
 use Rattle.model.specs.Rule.{Rule, listed}
 use Rattle.model.specs.Step.{Step}
 use Rattle.model.specs.Book.{Position, MarkAt}
-use Rattle.checker.specs.Wrong.{Marks, FirstWrong}
 
 -- some node of a row has a mark of which P holds
 unfoldable pub Somewhere : (Mark → Type 0) → Terms → Type 0
 Somewhere P no_terms = ⊥
 Somewhere P (tree o m k s) = P m ⊎ (Somewhere P k ⊎ Somewhere P s)
 
--- a mark that names an unlisted rule
+-- a mark at all; one that names an unlisted rule
+abbrev pub Marks : Mark → Type 0
+Marks unmarked = ⊥
+Marks (marked d r) = Unit {0}
+
 abbrev pub Unknown : List Rule → Mark → Type 0
 Unknown rs unmarked = ⊥
 Unknown rs (marked d r) = listed rs r ≡ none
@@ -40,12 +41,11 @@ pub record TwoMarks (t : Terms) : Type 0 where
 abbrev pub NotOne : Terms → Type 0
 NotOne t = (Somewhere Marks t → ⊥) ⊎ TwoMarks t
 
--- "by 15, 18, 16, 17", of which A10 leaves 15, 16, 17: why the term t may not come behind the term s, the condition and none before it; for 17
--- the first node where the step goes wrong, and what is told of it (A11)
-pub data LaterFault (rs : List Rule) (s t : Terms) : ℕ → Wrong → Type 0 where
-  is-15 : NotOne t → LaterFault rs s t 15 Nowhere
-  is-16 : (NotOne t → ⊥) → Somewhere (Unknown rs) t → LaterFault rs s t 16 Nowhere
-  is-17 : (NotOne t → ⊥) → (Somewhere (Unknown rs) t → ⊥) → (Step rs s t → ⊥) → (w : Wrong) → FirstWrong rs s t w → LaterFault rs s t 17 w
+-- "by 15, 18, 16, 17", of which A10 leaves 15, 16, 17: why the term t may not come behind the term s, the condition and none before it
+pub data LaterFault (rs : List Rule) (s t : Terms) : ℕ → Type 0 where
+  is-15 : NotOne t → LaterFault rs s t 15
+  is-16 : (NotOne t → ⊥) → Somewhere (Unknown rs) t → LaterFault rs s t 16
+  is-17 : (NotOne t → ⊥) → (Somewhere (Unknown rs) t → ⊥) → (Step rs s t → ⊥) → LaterFault rs s t 17
 
 -- the term at a place of a row, from 0
 unfoldable pub At : Terms → ℕ → Term → Type 0
@@ -53,14 +53,14 @@ At no_terms k t = ⊥
 At (tree o m ks f) zero t = t ≡ record { op = o; mark = m; kids = ks }
 At (tree o m ks f) (suc k) t = At f k t
 
--- the term at place k + 1 of a row is the first of the later ones to have a fault, and it has that of the number n, which tells w
-pub record FirstLater (rs : List Rule) (f : Terms) (n k : ℕ) (w : Wrong) : Type 0 where
+-- the term at place k + 1 of a row is the first of the later ones to have a fault, and it has that of the number n
+pub record FirstLater (rs : List Rule) (f : Terms) (n k : ℕ) : Type 0 where
   pub earlier : Term
   pub later : Term
   pub is_e : At f k earlier
   pub is_l : At f (suc k) later
-  pub before : (j : ℕ) (s t : Term) → j < k → At f j s → At f (suc j) t → (m : ℕ) (x : Wrong) → LaterFault rs (one s) (one t) m x → ⊥
-  pub fault : LaterFault rs (one earlier) (one later) n w
+  pub before : (j : ℕ) (s t : Term) → j < k → At f j s → At f (suc j) t → (m : ℕ) → LaterFault rs (one s) (one t) m → ⊥
+  pub fault : LaterFault rs (one earlier) (one later) n
 
 -- words that 19, 12 and 13 say nothing of: those of a row of not too many terms
 pub record Formed (ws : List ℕ) (f : Terms) : Type 0 where
@@ -75,12 +75,11 @@ pub record FirstMarked (f : Terms) : Type 0 where
   pub is_at : At f 0 term
   pub has_mark : Somewhere Marks (one term)
 
--- "19 for words, 12, 13, 19 for terms, 14, then each later term in order": the number, the term's place, and where its step went wrong
-pub data FirstFault (rs : List Rule) (ws : List ℕ) : ℕ → ℕ → Wrong → Type 0 where
-  words-19 : word_limit < length ws → FirstFault rs ws 19 0 Nowhere
-  words-12 : length ws ≤ word_limit → ws ≡ [] → FirstFault rs ws 12 0 Nowhere
-  words-13 : length ws ≤ word_limit → (ws ≡ [] → ⊥) → ((f : Terms) → Reads ws f → ⊥) → FirstFault rs ws 13 0 Nowhere
-  terms-19 : length ws ≤ word_limit → (ws ≡ [] → ⊥) → (f : Terms) → Reads ws f → term_limit < count f → FirstFault rs ws 19 0 Nowhere
-  first-14 : (f : Terms) → Formed ws f → FirstMarked f → FirstFault rs ws 14 0 Nowhere
-  later-by : (f : Terms) → Formed ws f → (FirstMarked f → ⊥) → (n k : ℕ) (w : Wrong) → FirstLater rs f n k w
-      → FirstFault rs ws n (suc k) w
+-- "19 for words, 12, 13, 19 for terms, 14, then each later term in order": the number, and the term's place
+pub data FirstFault (rs : List Rule) (ws : List ℕ) : ℕ → ℕ → Type 0 where
+  words-19 : word_limit < length ws → FirstFault rs ws 19 0
+  words-12 : length ws ≤ word_limit → ws ≡ [] → FirstFault rs ws 12 0
+  words-13 : length ws ≤ word_limit → (ws ≡ [] → ⊥) → ((f : Terms) → Reads ws f → ⊥) → FirstFault rs ws 13 0
+  terms-19 : length ws ≤ word_limit → (ws ≡ [] → ⊥) → (f : Terms) → Reads ws f → term_limit < count f → FirstFault rs ws 19 0
+  first-14 : (f : Terms) → Formed ws f → FirstMarked f → FirstFault rs ws 14 0
+  later-by : (f : Terms) → Formed ws f → (FirstMarked f → ⊥) → (n k : ℕ) → FirstLater rs f n k → FirstFault rs ws n (suc k)

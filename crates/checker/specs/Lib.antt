@@ -1,4 +1,2 @@
 pub mod Check
-pub mod Wrong
 pub mod Fault
-pub mod Before

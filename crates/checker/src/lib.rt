@@ -1,20 +1,20 @@
 // The strict checker. For each later term it judges, in this order: that it has exactly one mark (15), which names a listed rule (16),
-// and the step from the term before (17): the rule at the mark, and everything before it and behind it the same. 17 tells the first node
-// where that fails. Terms are walked flat.
+// and the step from the term before (17): the rule at the mark, and everything before it and behind it the same. Terms are walked flat.
 ghost use Rattle.std.specs.Prelude.{◌≡◌, ◌+◌, ◌*◌, ◌<◌};
 ghost use Rattle.model.specs.Limits.{flat_words};
 ghost use Rattle.terms.specs.Place.{node_of, Well, EndsAt};
 ghost use Rattle.marks.specs.Marks.{HasRow};
 ghost use Rattle.rule_table.specs.Entries.{AcceptedRules, HasRule, where_listed};
 ghost use Rattle.rule_table.specs.declared.Listed.TheVariants.{At};
-ghost use Rattle.checker.specs.Check.{EntryFits, MarkFits, Marked, StepIs, FollowsIs, ChainIs, TermsIs, VerdictIs};
+ghost use Rattle.checker.specs.Check.{EntryFits, MarkFits, Marked, StepIs, FaultIs, FollowsIs, ChainIs, TermsIs, VerdictIs};
 
 use marks::OneMark;
-use model::{FLAT_WORDS, Fit, RuleSide, TERM_LIMIT, Verdict, WORD_LIMIT, Wrong};
+use matching::Fit;
+use model::{FLAT_WORDS, TERM_LIMIT, Verdict, WORD_LIMIT};
 use rule_table::Listed;
 use terms::WholeTerms;
 
-// How the rule of entry `i` fits the term at `a` as its left side and the term at `b` as its right side.
+// Whether the rule of entry `i` makes the term at `a` its left side and the term at `b` its right side.
 fn entry_fits(rules: &[u16], i: usize, words: &[u16], a: usize, b: usize) -> Fit
     requires has_rule { HasRule rules.now i }
     requires well { Well words.now a }
@@ -26,7 +26,7 @@ fn entry_fits(rules: &[u16], i: usize, words: &[u16], a: usize, b: usize) -> Fit
     matching::rule_fits(left, right, words, a, b)
 }
 
-// How the rule of entry `i`, read as the mark at the root of the term at `b` says, fits this term and the term at `a` before it.
+// Whether the rule of entry `i` allows the term at `b`, whose root is marked, to follow the term at `a`: read as the mark says.
 fn mark_fits(rules: &[u16], i: usize, words: &[u16], a: usize, b: usize) -> Fit
     requires has_rule { HasRule rules.now i }
     requires well { Well words.now a }
@@ -38,14 +38,12 @@ fn mark_fits(rules: &[u16], i: usize, words: &[u16], a: usize, b: usize) -> Fit
     match mark {
         1 => entry_fits(rules, i, words, a, b),
         2 => entry_fits(rules, i, words, b, a),
-        // A mark is 1 or 2, so that this is never reached.
-        _ => Fit::Off(RuleSide::Left, 0),
+        _ => Fit::Off,
     }
 }
 
-// Where the step goes wrong from the term at `before` to the term from `at` to `end`, whose one mark stands behind `nodes` nodes and names
-// the rule of entry `i`: at the first node before the mark that disagrees, at the mark, or at the first node behind it. Nodes are counted
-// in the later term, so that those behind the marked subterm have its nodes before them, however many the earlier one had there.
+// Whether the term from `at` to `end`, whose one mark stands behind `nodes` nodes and names the rule of entry `i`, is a step from the
+// term at `before`: the nodes before the mark agree, the rule allows what stands there, and the nodes behind it agree.
 fn step_by(
     rules: &[u16],
     i: usize,
@@ -54,41 +52,30 @@ fn step_by(
     at: usize,
     nodes: usize,
     end: usize,
-) -> Wrong
+) -> bool
     requires accepted_rules { AcceptedRules rules.now }
     requires marked { Marked words.now before at nodes end }
     requires nodes_value { where_listed rules.now (node_of words.now (at + flat_words * nodes)).rule.0 ≡ At i }
     ensures { StepIs rules.now words.now before at result }
 {
-    let agree = terms::same_nodes(words, before, at, nodes);
-    if agree < nodes {
-        return Wrong::AtNode(agree);
+    if !terms::same_nodes(words, before, at, nodes) {
+        return false;
     }
     let a = before + FLAT_WORDS * nodes;
     let b = at + FLAT_WORDS * nodes;
     let fit = mark_fits(rules, i, words, a, b);
-    if let Fit::Off(side, item) = fit {
-        return Wrong::AtMark(nodes, side, item);
+    match fit {
+        Fit::Fits => {
+            let x = terms::end_of(words, a);
+            let y = terms::end_of(words, b);
+            terms::same_nodes(words, x, y, (end - y) / FLAT_WORDS)
+        }
+        Fit::Off => false,
     }
-    let x = terms::end_of(words, a);
-    let y = terms::end_of(words, b);
-    let left = (end - y) / FLAT_WORDS;
-    let more = terms::same_nodes(words, x, y, left);
-    if more < left {
-        return Wrong::AtNode((y - at) / FLAT_WORDS + more);
-    }
-    Wrong::Nowhere
 }
 
-// What became of a later term: it ends there and may follow the one before, or a fault, and for 17 where.
-#[derive(Drop)]
-enum Following {
-    Ends(usize),
-    Fault(u16, Wrong),
-}
-
-// Whether the term from `at` to `end`, whose one mark stands behind `nodes` nodes, may follow the term at `before`: 16 or 17, the first that
-// holds, or where it ends.
+// Why the term from `at` to `end`, whose one mark stands behind `nodes` nodes, may not follow the term at `before`: 16 or 17, the first
+// that holds; 0 where it may.
 fn mark_fault(
     rules: &[u16],
     words: &[u16],
@@ -96,21 +83,27 @@ fn mark_fault(
     at: usize,
     nodes: usize,
     end: usize,
-) -> Following
+) -> u16
     requires accepted_rules { AcceptedRules rules.now }
     requires marked { Marked words.now before at nodes end }
-    ensures { FollowsIs rules.now words.now before at result }
+    ensures { FaultIs rules.now words.now before at result }
 {
     let n = terms::node_at(words, at + FLAT_WORDS * nodes);
     let found = rule_table::find_rule(rules, n.rule);
     let Listed::At(i) = found else {
-        return Following::Fault(16, Wrong::Nowhere);
+        return 16;
     };
-    let wrong = step_by(rules, i, words, before, at, nodes, end);
-    if let Wrong::Nowhere = wrong {
-        return Following::Ends(end);
+    if !step_by(rules, i, words, before, at, nodes, end) {
+        return 17;
     }
-    Following::Fault(17, wrong)
+    0
+}
+
+// What became of a later term: it ends there and may follow the one before, or a fault.
+#[derive(Drop)]
+enum Following {
+    Ends(usize),
+    Fault(u16),
 }
 
 // Whether the term at `at` may follow the term from `before` up to it: 15, 16 or 17, the first that holds, or where it ends.
@@ -122,9 +115,13 @@ fn later_fault(rules: &[u16], words: &[u16], before: usize, at: usize) -> Follow
 {
     let found = marks::one_mark(words, at);
     let OneMark::Behind { nodes, end } = found else {
-        return Following::Fault(15, Wrong::Nowhere);
+        return Following::Fault(15);
     };
-    mark_fault(rules, words, before, at, nodes, end)
+    let fault = mark_fault(rules, words, before, at, nodes, end);
+    if fault != 0 {
+        return Following::Fault(fault);
+    }
+    Following::Ends(end)
 }
 
 // The verdict on the later ones of n terms, each judged behind the one before it.
@@ -145,8 +142,8 @@ fn later_terms(rules: &[u16], words: &[u16], n: usize) -> Verdict
                 at = e;
                 k += 1;
             }
-            Following::Fault(number, wrong) => {
-                return Verdict::Rejected(number, k, wrong);
+            Following::Fault(fault) => {
+                return Verdict::Rejected(fault, k);
             }
         }
     }
@@ -161,10 +158,10 @@ fn terms_verdict(rules: &[u16], words: &[u16], n: usize) -> Verdict
     ensures { TermsIs rules.now words.now n result }
 {
     if n > TERM_LIMIT {
-        return Verdict::Rejected(19, 0, Wrong::Nowhere);
+        return Verdict::Rejected(19, 0);
     }
     if marks::marked(words, 0, 1) {
-        return Verdict::Rejected(14, 0, Wrong::Nowhere);
+        return Verdict::Rejected(14, 0);
     }
     later_terms(rules, words, n)
 }
@@ -175,14 +172,14 @@ pub fn check(rules: &[u16], words: &[u16]) -> Verdict
     ensures { VerdictIs rules.now words.now result }
 {
     if words.len() > WORD_LIMIT {
-        return Verdict::Rejected(19, 0, Wrong::Nowhere);
+        return Verdict::Rejected(19, 0);
     }
     if words.len() == 0 {
-        return Verdict::Rejected(12, 0, Wrong::Nowhere);
+        return Verdict::Rejected(12, 0);
     }
     let whole = terms::whole_terms(words);
     match whole {
         WholeTerms::Count(n) => terms_verdict(rules, words, n),
-        WholeTerms::Broken => Verdict::Rejected(13, 0, Wrong::Nowhere),
+        WholeTerms::Broken => Verdict::Rejected(13, 0),
     }
 }

@@ -1,6 +1,5 @@
 -- The program's step: what is printed stands in the room, the tables hold a state again, and the piece is read on behind where it was.
 use Prim.Native.Nat.{ℕ, ◌+◌, ◌≤◌, ◌<◌}
-use mathlib.Core.Bool.{Bool}
 use mathlib.Core.List.{List}
 use mathlib.Core.Logic.{⊎_elim, inl, inr}
 use mathlib.Core.Path.{◌≡◌, refl, sym, ap, subst, ◌∙◌}
@@ -127,5 +126,5 @@ end-within kind line held old new n e w h =
     omega (arith, e, ap length w, length-append text (drop (0 + length text) old))
 
 -- before the first byte any tables are ready
-pub ready-first : (d : Bool) (t : Store) (p : Place) → p ≡ at_first d → Ready p t
-ready-first d t p e = subst (λ (x : Place). Ready x t) (sym e) (record { running = record { state = start d; stands = at-start d t }; held = omega arith })
+pub ready-first : (t : Store) (p : Place) → p ≡ at_first → Ready p t
+ready-first t p e = subst (λ (x : Place). Ready x t) (sym e) (record { running = record { state = start; stands = at-start t }; held = omega arith })

@@ -23,44 +23,44 @@ use Rattle.explain.specs.Pieces.{StoppedIn, PieceTaken, Ended, PieceRead, RunTo,
 use Rattle.explain.proofs.Chains.{through-ready, through-prints, stopped-prints}
 
 -- The last piece is read to its end, and whatever is printed behind it belongs to a run from the start.
-pub record Since (d : Bool) (t₀ : Store) (line₀ : List ℕ) (p : Place) (t : Store) (line : List ℕ) : Type 0 where
+pub record Since (t₀ : Store) (line₀ : List ℕ) (p : Place) (t : Store) (line : List ℕ) : Type 0 where
   pub piece : List ℕ
-  pub whole : (more : List (List ℕ)) (out : List ℕ) (status : ℕ) → Prints p t line piece (length piece) more out status → RunTo d t₀ line₀ status
+  pub whole : (more : List (List ℕ)) (out : List ℕ) (status : ℕ) → Prints p t line piece (length piece) more out status → RunTo t₀ line₀ status
 
-pub since-first : (d : Bool) (t : Store) (line : List ℕ) (p : Place) → p ≡ at_first d → Since d t line p t line
-since-first d t line p e =
-    subst (λ (x : Place). Since d t line x t line) (sym e) (record { piece = []; whole = λ more out status x. record { pieces = more; out = out; prints = x } })
+pub since-first : (t : Store) (line : List ℕ) (p : Place) → p ≡ at_first → Since t line p t line
+since-first t line p e =
+    subst (λ (x : Place). Since t line x t line) (sym e) (record { piece = []; whole = λ more out status x. record { pieces = more; out = out; prints = x } })
 
 -- a piece behind it
-module _ {d : Bool} {t₀ t : Store} {line₀ line : List ℕ} {p : Place} (since : Since d t₀ line₀ p t line) where
-  since-piece : {piece kept : List ℕ} {q : Place} {u : Store} → Through piece p t line 0 q u kept (length piece) → Since d t₀ line₀ q u kept
+module _ {t₀ t : Store} {line₀ line : List ℕ} {p : Place} (since : Since t₀ line₀ p t line) where
+  since-piece : {piece kept : List ℕ} {q : Place} {u : Store} → Through piece p t line 0 q u kept (length piece) → Since t₀ line₀ q u kept
   since-piece {piece} came =
       record {
         piece = piece;
         whole = λ more out status x. let y = through-prints came x in since.whole (piece ∷ more) y.out status (piece-on y.prints);
       }
 
-  since-stopped : {piece : List ℕ} → StoppedIn piece p t line → RunTo d t₀ line₀ 2
+  since-stopped : {piece : List ℕ} → StoppedIn piece p t line → RunTo t₀ line₀ 2
   since-stopped {piece} s = let y = stopped-prints [] s in since.whole (piece ∷ []) y.out 2 (piece-on y.prints)
 
-  since-end : RunTo d t₀ line₀ (end_status p)
+  since-end : RunTo t₀ line₀ (end_status p)
   since-end = since.whole [] (end_text p.counts.kind p.line p.held) (end_status p) ends
 
-  since-over : (piece kept : List ℕ) (u : Store) (n : ℕ) → PieceTaken p t line piece (Over n) u kept → CameTo d t₀ line₀ n
+  since-over : (piece kept : List ℕ) (u : Store) (n : ℕ) → PieceTaken p t line piece (Over n) u kept → CameTo t₀ line₀ n
   since-over piece kept u n h =
-      ⊎_elim (λ z. inl z) (λ z. inr (subst (λ (x : ℕ). RunTo d t₀ line₀ x) (sym z.0) (since-stopped z.1))) h
+      ⊎_elim (λ z. inl z) (λ z. inr (subst (λ (x : ℕ). RunTo t₀ line₀ x) (sym z.0) (since-stopped z.1))) h
 
-  ended-over : (n : ℕ) → Ended p n → CameTo d t₀ line₀ n
-  ended-over n h = ⊎_elim (λ z. inl z) (λ z. inr (subst (λ (x : ℕ). RunTo d t₀ line₀ x) (sym z) since-end)) h
+  ended-over : (n : ℕ) → Ended p n → CameTo t₀ line₀ n
+  ended-over n h = ⊎_elim (λ z. inl z) (λ z. inr (subst (λ (x : ℕ). RunTo t₀ line₀ x) (sym z) since-end)) h
 
   module _ (buffer : List ℕ) (u : Store) (kept : List ℕ) (x : Reading) (h : PieceRead p t line buffer x u kept) where
     abbrev Then : Reading → Type 0
     Then y = PieceRead p t line buffer y u kept
 
-    pub over : (n : ℕ) → x ≡ Over n → CameTo d t₀ line₀ n
+    pub over : (n : ℕ) → x ≡ Over n → CameTo t₀ line₀ n
     over n e = ⊎_elim (λ r. since-over (take r.count buffer) kept u n r.taken) (ended-over n) (subst Then e h)
 
-    pub on-since : (q : Place) → x ≡ Behind q → Since d t₀ line₀ q u kept
+    pub on-since : (q : Place) → x ≡ Behind q → Since t₀ line₀ q u kept
     on-since q e = ⊎_elim (λ r. since-piece r.taken) (λ z. absurd z) (subst Then e h)
 
     pub on-ready : Ready p t → length line ≡ kept_limit → (q : Place) → x ≡ Behind q → Ready q u
@@ -78,12 +78,12 @@ prints-digit (piece-on r) = prints-digit r
 prints-digit (stops n u room a) = omega arith
 prints-digit (goes q next n u room a r) = prints-digit r
 
-pub digit : {d : Bool} {t : Store} {line : List ℕ} {status : ℕ} → CameTo d t line status → status ≤ 3
+pub digit : {t : Store} {line : List ℕ} {status : ℕ} → CameTo t line status → status ≤ 3
 digit h = ⊎_elim (λ z. omega arith) (λ r. prints-digit r.prints) h
 
 -- What the contract of `read_all` says of a run without trouble: over the pieces that were read, what is printed is `output` of the bytes,
--- told in detail or not as it was asked, and the status is their `outcome`. No input has as many bytes as there are line numbers.
-pub run_is : {d : Bool} {t : Store} {line : List ℕ} {status : ℕ} (r : RunTo d t line status) → length line ≡ kept_limit →
-    length (together r.pieces) < last_line → (r.out ≡ output d (together r.pieces)) × (status ≡ outcome d (together r.pieces))
-run_is {d} {t} {line} r long few =
-    (prints-output d t line r.pieces long few r.prints, prints-status d t line r.pieces long few r.prints)
+-- and the status is their `outcome`. No input has as many bytes as there are line numbers.
+pub run_is : {t : Store} {line : List ℕ} {status : ℕ} (r : RunTo t line status) → length line ≡ kept_limit → length (together r.pieces) < last_line →
+    (r.out ≡ output (together r.pieces)) × (status ≡ outcome (together r.pieces))
+run_is {t} {line} r long few =
+    (prints-output t line r.pieces long few r.prints, prints-status t line r.pieces long few r.prints)

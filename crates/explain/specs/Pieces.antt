@@ -1,6 +1,6 @@
 -- What the program makes of a piece of the input, and of all pieces: a chain of steps, each from where the last one left off. Status 3 is
 -- trouble in reading or writing: nothing says when a read or a write fails.
-use Rattle.std.specs.Prelude.{ℕ, ◌≤◌, ◌<◌, Bool, List, [], ◌⊎◌, ◌≡◌, length, take}
+use Rattle.std.specs.Prelude.{ℕ, ◌≤◌, ◌<◌, List, [], ◌⊎◌, ◌≡◌, length, take}
 use Rattle.frames.specs.Ran.{Store}
 use Rattle.reader.specs.declared.Place.{Place}
 use Rattle.reader.specs.declared.Advance.TheVariants.{Stops}
@@ -44,12 +44,12 @@ NoneRead p (Over status) = Ended p status
 abbrev pub PieceRead : Place → Store → List ℕ → List ℕ → Reading → Store → List ℕ → Type 0
 PieceRead p t line buffer r u kept = SomeRead p t line buffer r u kept ⊎ NoneRead p r
 
--- There are pieces over which the run, told in detail or not, comes to a status. They are not named: C's `read` says how many bytes it
--- puts into the buffer, and not which. So a run over no pieces fits as well, as over an empty input.
-pub record RunTo (d : Bool) (t : Store) (line : List ℕ) (status : ℕ) : Type 0 where
+-- There are pieces over which the run comes to a status. They are not named: C's `read` says how many bytes it puts into the buffer, and
+-- not which. So a run over no pieces fits as well, as over an empty input.
+pub record RunTo (t : Store) (line : List ℕ) (status : ℕ) : Type 0 where
   pub pieces : List (List ℕ)
   pub out : List ℕ
-  pub prints : Prints (at_first d) t line [] 0 pieces out status
+  pub prints : Prints at_first t line [] 0 pieces out status
 
-abbrev pub CameTo : Bool → Store → List ℕ → ℕ → Type 0
-CameTo d t line status = (status ≡ 3) ⊎ RunTo d t line status
+abbrev pub CameTo : Store → List ℕ → ℕ → Type 0
+CameTo t line status = (status ≡ 3) ⊎ RunTo t line status

@@ -183,10 +183,9 @@ fn read_piece(
     )
 }
 
-// Reads standard input to its end, and tells rejections in detail or not. A proved loop has to end, and nothing says that the input does,
-// so the loop counts its turns down, from a number that no run uses up.
+// Reads standard input to its end. A proved loop has to end, and nothing says that the input does, so the loop counts its turns
+// down, from a number that no run uses up.
 pub fn read_all(
-    detail: bool,
     piece: &mut [u8],
     line: &mut [u8],
     bytes: &mut [u8],
@@ -198,10 +197,10 @@ pub fn read_all(
     room: &mut [u8],
 ) -> u8
     requires { Rooms line.old bytes.old nodes.old rules.old conns.old classes.old area.old room.old }
-    ensures { CameTo detail (stored nodes.old rules.old conns.old classes.old area.old) line.old result }
+    ensures { CameTo (stored nodes.old rules.old conns.old classes.old area.old) line.old result }
 {
     let mut turns = u64::MAX;
-    let mut at = first(detail);
+    let mut at = first();
     while turns > 0 {
         let reading = read_piece(
             at, piece, line, bytes, nodes, rules, conns, classes, area, room,
@@ -216,8 +215,8 @@ pub fn read_all(
 }
 
 // Before the first byte.
-fn first(detail: bool) -> Place
-    ensures { result ≡ at_first detail }
+fn first() -> Place
+    ensures { result ≡ at_first }
 {
     let counts = Counts {
         kind: 0,
@@ -225,7 +224,6 @@ fn first(detail: bool) -> Place
         rules: 0,
         connections: 0,
         offered: 0,
-        detail,
     };
     Place {
         counts,

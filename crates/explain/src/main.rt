@@ -1,15 +1,12 @@
-// Reads frames from standard input and prints what they come to, each answer when its line is read. Among its arguments, in any order,
-// the word `detail` asks that rejections are told in detail, and the word `status` that what the run came to is written as one digit on
-// descriptor 3, since a program of this language has no exit status of its own.
+// Reads frames from standard input and prints what they come to, each answer when its line is read. Started with an argument it writes
+// what the run came to as one digit on descriptor 3, since a program of this language has no exit status of its own.
 mod input;
-mod words;
 
 use frames::{AREA_WORDS, CONNECTION_ROOM, NODE_ROOM, RULE_ROOM, TEXT_ROOM};
 use hex::DIGIT_LIMIT;
 use input::read_all;
 use model::NODE_LIMIT;
 use pieces::KEPT_LIMIT;
-use words::given;
 
 // A byte of a frame takes two digits of its line.
 const FRAME_ROOM: usize = DIGIT_LIMIT / 2;
@@ -26,9 +23,7 @@ fn main() {
     let mut classes = [0u16; NODE_LIMIT];
     let mut area = [0u16; AREA_WORDS];
     let mut room = [0u8; TEXT_ROOM];
-    let detail = given(b"detail");
     let status = read_all(
-        detail,
         &mut piece,
         &mut line,
         &mut bytes,
@@ -39,7 +34,7 @@ fn main() {
         &mut area,
         &mut room,
     );
-    if given(b"status") {
+    if os::arg_count() > 1 {
         io::write_all(STATUS_FILENO, &[48 + status]);
     }
 }

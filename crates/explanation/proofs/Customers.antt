@@ -17,15 +17,12 @@ use Rattle.model.specs.declared.Measured.{Measured}
 use Rattle.model.specs.declared.Printed.{Printed}
 use Rattle.model.specs.declared.Verdict.{Verdict}
 use Rattle.model.specs.declared.Verdict.TheVariants.{Accepted, Rejected}
-use Rattle.model.specs.declared.Wrong.TheVariants.{Nowhere}
 use Rattle.model.specs.Judged.{Judged, good, bad}
 use Rattle.model.specs.Premise.{Premise}
 use Rattle.model.specs.Query.{Tables, distance_in, proof_words}
 use Rattle.model.specs.Book.{Rewriting}
 use Rattle.model.specs.Verdict.{Proves}
 use Rattle.model.specs.Tables.{judge_tables, measure_by, answer_by, area_of, verdict_by}
-use Rattle.checker.specs.Before.{verdict_before, as_before}
-use Rattle.checker.proofs.Before.{as_before_lem as unchanged}
 use Rattle.checker.proofs.Faults.{demand-1 as first-fault}
 use Rattle.explanation.specs.Demand.{FirstToHold, FirstMeasured, FirstRejected, FirstPrinted, Asked, Granted}
 use Rattle.explanation.proofs.Answers.{unmeasured-8, unmeasured-9, unmeasured-10}
@@ -74,7 +71,7 @@ first-rejected : (nws rws cws ws : List ℕ) → FirstRejected (judge_tables nws
 first-rejected nws rws cws ws =
     record {
       tables = λ n e. rw e refl;
-      rejected = λ t e n k w. rw e (first-fault t.rules ws n k w);
+      rejected = λ t e n k. rw e (first-fault t.rules ws n k);
     }
 
 pub demand-1-check : (κs : Lfts 4) (a s : _) (v : Verdict) → check.Post κs a v s →
@@ -85,14 +82,8 @@ demand-1-check κs a s v p =
 
 -- bad tables come before all else in it too
 pub bad-first : (κs : Lfts 4) (a s : _) (v : Verdict) → check.Post κs a v s → (n : ℕ) →
-    judge_tables a.0.now a.1.0.now a.1.1.0.now ≡ bad n → v ≡ Rejected n 0 Nowhere
+    judge_tables a.0.now a.1.0.now a.1.1.0.now ≡ bad n → v ≡ Rejected n 0
 bad-first κs a s v p = (demand-1-check κs a s v p).tables
-
--- A11 changed nothing of what is accepted: number, place and count are those of the verdict before it
-pub as_before_lem : (κs : Lfts 4) (a s : _) (v : Verdict) → check.Post κs a v s → (t : Tables) →
-    judge_tables a.0.now a.1.0.now a.1.1.0.now ≡ good t → as_before v ≡ verdict_before t.rules a.1.1.1.0.now
-as_before_lem κs a s v p t e =
-    ap as_before (p ∙ ap (λ (j : Judged Tables). verdict_by j a.1.1.1.0.now) e) ∙ unchanged t.rules a.1.1.1.0.now
 
 -- DEMAND 1 of `distance`
 first-measured : (nws rws cws : List ℕ) (l r : ℕ) → FirstMeasured (judge_tables nws rws cws) l r (measure_by (judge_tables nws rws cws) l r)

@@ -11,7 +11,6 @@ use lib.ListN.{length, replicate, length-replicate, length-append}
 use Rattle.model.specs.declared.Answer.{Answer}
 use Rattle.model.specs.declared.Answer.TheVariants.{Written, Refused}
 use Rattle.model.specs.declared.Verdict.TheVariants.{Rejected}
-use Rattle.model.specs.declared.Wrong.TheVariants.{Nowhere}
 use Rattle.model.specs.Limits.{distance_limit}
 use Rattle.model.specs.Judged.{Judged, good, bad}
 use Rattle.model.specs.Forest.{Linked}
@@ -66,7 +65,7 @@ module _ (nws rws cws : List ℕ) (t : Tables) (are : judge_tables nws rws cws �
 
 -- "a query or check over bad ones returns that number"
 pub bad-tables : (nws rws cws : List ℕ) (n : ℕ) → judge_tables nws rws cws ≡ bad n → (area l r : ℕ) (ws : List ℕ)
-    → (answer_by (judge_tables nws rws cws) area l r ≡ Refused n) × (verdict_by (judge_tables nws rws cws) ws ≡ Rejected n 0 Nowhere)
+    → (answer_by (judge_tables nws rws cws) area l r ≡ Refused n) × (verdict_by (judge_tables nws rws cws) ws ≡ Rejected n 0)
 bad-tables nws rws cws n e area l r ws = (rw e refl, rw e refl)
 
 -- a refusal leaves the area all zero, over bad tables too

@@ -38,14 +38,9 @@ query-only : (κs : Lfts 4) (a s s' : _) (r r' : Answer) → query.Post κs a r 
     (r ≡ r') × (s.1.1.1.1.1.0.now ≡ s'.1.1.1.1.1.0.now)
 query-only κs a s s' r r' p q = (p.0 ∙ sym q.0, p.1 ∙ sym q.1)
 
-check-in-c-only : (κs : Lfts 8) (a s s' : _) (r r' : ℕ) → check-in-c.Post κs a r s → check-in-c.Post κs a r' s' →
-    (r ≡ r')
-    × (s.1.1.1.1.0.now ≡ s'.1.1.1.1.0.now)
-    × (s.1.1.1.1.1.0.now ≡ s'.1.1.1.1.1.0.now)
-    × (s.1.1.1.1.1.1.0.now ≡ s'.1.1.1.1.1.1.0.now)
-    × (s.1.1.1.1.1.1.1.0.now ≡ s'.1.1.1.1.1.1.1.0.now)
-check-in-c-only κs a s s' r r' p q =
-    (p.number ∙ sym q.number, p.value ∙ sym q.value, p.node ∙ sym q.node, p.side ∙ sym q.side, p.item ∙ sym q.item)
+check-in-c-only : (κs : Lfts 5) (a s s' : _) (r r' : ℕ) → check-in-c.Post κs a r s → check-in-c.Post κs a r' s' →
+    (r ≡ r') × (s.1.1.1.1.0.now ≡ s'.1.1.1.1.0.now)
+check-in-c-only κs a s s' r r' p q = (p.0 ∙ sym q.0, p.1 ∙ sym q.1)
 
 distance-in-c-only : (κs : Lfts 4) (a s s' : _) (r r' : ℕ) → distance-in-c.Post κs a r s → distance-in-c.Post κs a r' s' →
     (r ≡ r') × (s.1.1.1.1.1.0.now ≡ s'.1.1.1.1.1.0.now)

@@ -9,7 +9,6 @@ use Rattle.model.specs.declared.Connection.{Connection}
 use Rattle.model.specs.declared.Judgement.TheVariants.{Taken, Faulty}
 use Rattle.model.specs.declared.Measured.TheVariants.{Unmeasured}
 use Rattle.model.specs.declared.Verdict.TheVariants.{Rejected}
-use Rattle.model.specs.declared.Wrong.TheVariants.{Nowhere}
 use Rattle.model.specs.Judged.{Judged, good, bad, judgement_of}
 use Rattle.model.specs.Rule.{Rule}
 use Rattle.model.specs.Node.{Node}
@@ -92,7 +91,7 @@ whole nws rws cws t e =
     }
 
 -- answers over tables that are refused
-pub refused : (j : Judged Tables) (ws : List ℕ) (n : ℕ) → Faulty n ≡ judgement_of j → Rejected n 0 Nowhere ≡ verdict_by j ws
+pub refused : (j : Judged Tables) (ws : List ℕ) (n : ℕ) → Faulty n ≡ judgement_of j → Rejected n 0 ≡ verdict_by j ws
 refused j ws n e = sym (ap (λ (x : Judged Tables). verdict_by x ws) (faulty-bad j n e))
 
 pub unmeasured : (j : Judged Tables) (l r n : ℕ) → Faulty n ≡ judgement_of j → Unmeasured n ≡ measure_by j l r

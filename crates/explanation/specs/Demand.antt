@@ -8,8 +8,6 @@ use Rattle.model.specs.declared.Measured.TheVariants.{Unmeasured}
 use Rattle.model.specs.declared.Printed.{Printed}
 use Rattle.model.specs.declared.Printed.TheVariants.{Bytes, NoText}
 use Rattle.model.specs.declared.Verdict.{Verdict}
-use Rattle.model.specs.declared.Wrong.{Wrong}
-use Rattle.model.specs.declared.Wrong.TheVariants.{Nowhere}
 use Rattle.model.specs.declared.Verdict.TheVariants.{Accepted, Rejected}
 use Rattle.model.specs.Limits.{distance_limit, word_limit}
 use Rattle.model.specs.Judged.{Judged, good, bad}
@@ -61,11 +59,10 @@ pub record FirstMeasured (j : Judged Tables) (l r : ℕ) (m : Measured) : Type 0
   pub is-9 : (t : Tables) → j ≡ good t → (m ≡ Unmeasured 9) ↔ (Known t l r × Unlinked t l r)
   pub is-10 : (t : Tables) → j ≡ good t → (m ≡ Unmeasured 10) ↔ (Known t l r × Linked t.conns l r × (distance_limit < distance_in t l r))
 
--- and of the verdict v on words: bad tables before all else, at place 0; then each number and place, and for 17 the node with its side and item,
--- exactly where that fault is the first
+-- and of the verdict v on words: bad tables before all else, at place 0; then each number and place exactly where that fault is the first
 pub record FirstRejected (j : Judged Tables) (ws : List ℕ) (v : Verdict) : Type 0 where
-  pub tables : (n : ℕ) → j ≡ bad n → v ≡ Rejected n 0 Nowhere
-  pub rejected : (t : Tables) → j ≡ good t → (n k : ℕ) (w : Wrong) → (v ≡ Rejected n k w) ↔ FirstFault t.rules ws n k w
+  pub tables : (n : ℕ) → j ≡ bad n → v ≡ Rejected n 0
+  pub rejected : (t : Tables) → j ≡ good t → (n k : ℕ) → (v ≡ Rejected n k) ↔ FirstFault t.rules ws n k
 
 -- "12, 13 (also for a second term), then 11 if its bytes exceed the lent room": words of one term, and those whose text exceeds a room
 pub record OneTerm (ws : List ℕ) : Type 0 where

@@ -1,4 +1,3 @@
 pub mod Measure
 pub mod Demand
 pub mod Query
-pub mod Report

@@ -6,18 +6,17 @@ ghost use Rattle.model.specs.declared.Measured.TheVariants.{Distance};
 ghost use Rattle.model.specs.Query.{measure_report, answer_report};
 ghost use Rattle.model.specs.Tables.{node_words, connection_words, judge_tables, measure_by, answer_by, area_of, verdict_by};
 ghost use Rattle.model.specs.Text.{text_report, term_text, room_after};
-ghost use Rattle.model.specs.Verdict.{side_word, wrong_node, wrong_side, wrong_item};
+ghost use Rattle.model.specs.Verdict.{report_of};
 ghost use Rattle.entries.specs.Connections.{Supported};
 ghost use Rattle.entries.specs.Nodes.{NodesWhole};
 ghost use Rattle.forest.specs.Rows.{table_words};
 ghost use Rattle.explanation.specs.Measure.{Measures, Ways, Routed};
 ghost use Rattle.explanation.specs.Query.{Answers, Responds};
-ghost use Rattle.explanation.specs.Report.{Reported};
 
 use forest::TABLE_WORDS;
 use model::{
-    Answer, DISTANCE_LIMIT, Judgement, Measured, NODE_LIMIT, NODE_WORDS, NodeNo, Printed, RuleSide,
-    Verdict, WORD_LIMIT, Wrong, wide,
+    Answer, DISTANCE_LIMIT, Judgement, Measured, NODE_LIMIT, NODE_WORDS, NodeNo, Printed, Verdict,
+    WORD_LIMIT, wide,
 };
 use trees::clear_from;
 
@@ -36,14 +35,13 @@ fn judge_tables(nodes: &[u16], rules: &[u16], connections: &[u16]) -> Judgement
     connections::judge_connections(nodes, connections)
 }
 
-// The strict checker over tables handed in whole and any words: how many terms were accepted, or the refusal and its place, and for 17 where
-// the step went wrong.
+// The strict checker over tables handed in whole and any words: how many terms were accepted, or the refusal and its place.
 pub fn check(nodes: &[u16], rules: &[u16], connections: &[u16], words: &[u16]) -> Verdict
     ensures { result ≡ verdict_by (judge_tables nodes.now rules.now connections.now) words.now }
 {
     let judged = judge_tables(nodes, rules, connections);
     if let Judgement::Faulty(number) = judged {
-        return Verdict::Rejected(number, 0, Wrong::Nowhere);
+        return Verdict::Rejected(number, 0);
     }
     checker::check(rules, words)
 }
@@ -187,43 +185,7 @@ pub fn query(
     respond(nodes, connections, left, right, area)
 }
 
-// A rule's side as a word: 0 is kept for no side, so that a node that disagrees is never taken for a left side's first item.
-fn side_word(side: RuleSide) -> u16
-    ensures { result ≡ side_word side }
-{
-    match side {
-        RuleSide::Left => 1,
-        RuleSide::Right => 2,
-    }
-}
-
-// Where a step went wrong, put behind three numbers: the node, and at a mark the side and the item; all zero where they do not apply.
-fn put_wrong(wrong: Wrong, node: &mut u64, side: &mut u16, item: &mut u64)
-    ensures node_after { node.new ≡ wrong_node wrong }
-    ensures side_after { side.new ≡ wrong_side wrong }
-    ensures item_after { item.new ≡ wrong_item wrong }
-{
-    match wrong {
-        Wrong::Nowhere => {
-            *node = 0;
-            *side = 0;
-            *item = 0;
-        }
-        Wrong::AtNode(n) => {
-            *node = n as u64;
-            *side = 0;
-            *item = 0;
-        }
-        Wrong::AtMark(n, s, i) => {
-            *node = n as u64;
-            *side = side_word(s);
-            *item = i as u64;
-        }
-    }
-}
-
-// The same for C: the number is returned (0 for success), the count of terms or the place stands behind `value`; behind `node`, `side` and
-// `item` stands where a step went wrong.
+// The same for C: the number is returned (0 for success), the count of terms or the place stands behind `value`.
 #[unsafe(no_mangle)]
 pub extern "C" fn erbighenti_check(
     nodes: &[u16],
@@ -231,22 +193,18 @@ pub extern "C" fn erbighenti_check(
     connections: &[u16],
     words: &[u16],
     value: &mut u64,
-    node: &mut u64,
-    side: &mut u16,
-    item: &mut u64,
 ) -> u16
-    ensures { Reported nodes.now rules.now connections.now words.now result value.new node.new side.new item.new }
+    ensures value { result ≡ (report_of (verdict_by (judge_tables nodes.now rules.now connections.now) words.now)).number }
+    ensures value_after { value.new ≡ (report_of (verdict_by (judge_tables nodes.now rules.now connections.now) words.now)).value }
 {
     let verdict = check(nodes, rules, connections, words);
     match verdict {
         Verdict::Accepted(terms) => {
             *value = terms as u64;
-            put_wrong(Wrong::Nowhere, node, side, item);
             0
         }
-        Verdict::Rejected(number, place, wrong) => {
+        Verdict::Rejected(number, place) => {
             *value = place as u64;
-            put_wrong(wrong, node, side, item);
             number
         }
     }

@@ -17,7 +17,7 @@ use Rattle.frames.specs.Step.{StepIs}
 
 -- the counts behind it
 abbrev pub no_words : Counts → Counts
-no_words k = record { kind = 6; nodes = k.nodes; rules = k.rules; connections = k.connections; offered = 0; detail = k.detail }
+no_words k = record { kind = 6; nodes = k.nodes; rules = k.rules; connections = k.connections; offered = 0 }
 
 pub some_bytes : (bs : List ℕ) → (length bs ≡ 0 → ⊥) → is_none bs ≡ false
 some_bytes [] h = absurd (h refl)
@@ -37,7 +37,7 @@ module _ (k : Counts) (nws rws cws classes area : List ℕ) (s : State) (h : Sta
   close-wrong room b e = subst (λ (x : Bool). StepIs (closed s x) (Refuses 2) nws rws cws classes area room) (sym e) refl
 
   pub close-right : (old room : List ℕ) {n : ℕ} (b : Bool) → b ≡ true →
-      let text = verdict_text s.detail (verdict s.tables.rules s.open-words) in
+      let text = verdict_text (verdict s.tables.rules s.open-words) in
       n ≡ length text → room ≡ splice old 0 text → StepIs (closed s b) (Goes (no_words k) n) nws rws cws classes area room
   close-right old room {n} b e l w =
       subst (λ (x : Bool). StepIs (closed s x) (Goes (no_words k) n) nws rws cws classes area room) (sym e) (
@@ -53,6 +53,5 @@ module _ (k : Counts) (nws rws cws classes area : List ℕ) (s : State) (h : Sta
           words = refl;
           fits = omega arith;
           fresh = λ p. absurd (omega arith);
-          detail = h.detail;
         },
       )

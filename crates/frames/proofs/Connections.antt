@@ -26,7 +26,7 @@ use Rattle.frames.proofs.Front.{front-count, front-nodes, oldest-are}
 
 -- the counts behind a connection
 abbrev pub one_connection : Counts → Counts
-one_connection k = record { kind = 3; nodes = k.nodes; rules = k.rules; connections = k.connections + 1; offered = 0; detail = k.detail }
+one_connection k = record { kind = 3; nodes = k.nodes; rules = k.rules; connections = k.connections + 1; offered = 0 }
 
 module _ (k : Counts) (nws before after classes tops rws area room : List ℕ) (s : State) (h : Stands k nws rws before classes area s) where
   -- what judging it over the counted nodes came to is what the run's tables come to
@@ -67,6 +67,5 @@ module _ (k : Counts) (nws before after classes tops rws area room : List ℕ) (
           words = refl;
           fits = omega arith;
           fresh = λ p. absurd (omega arith);
-          detail = h.detail;
         },
       )

@@ -21,7 +21,7 @@ use Rattle.frames.specs.Step.{StepIs}
 
 -- the counts behind a node
 abbrev pub one_node : Counts → Counts
-one_node k = record { kind = 1; nodes = k.nodes + 1; rules = k.rules; connections = k.connections; offered = 0; detail = k.detail }
+one_node k = record { kind = 1; nodes = k.nodes + 1; rules = k.rules; connections = k.connections; offered = 0 }
 
 -- where there is no connection, the nodes play no part
 pub no-connection : (ns ms : List Node) (cws : List ℕ) (k : ℕ) → k ≡ 0 → connections_to ns cws k ≡ connections_to ms cws k
@@ -50,6 +50,5 @@ module _ (k : Counts) (before after rws cws classes area room : List ℕ) (s : S
           words = refl;
           fits = omega arith;
           fresh = λ _. none;
-          detail = h.detail;
         },
       )

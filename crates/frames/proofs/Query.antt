@@ -151,7 +151,7 @@ module _ (k : Counts) (nws cws : List ℕ) (t : Tables) (n : nodes_to nws k.node
 
 -- the counts behind a query
 abbrev pub after_query : Counts → Counts
-after_query k = record { kind = 4; nodes = k.nodes; rules = k.rules; connections = k.connections; offered = 0; detail = k.detail }
+after_query k = record { kind = 4; nodes = k.nodes; rules = k.rules; connections = k.connections; offered = 0 }
 
 abbrev left_of : Pair → ℕ
 left_of (Nodes l r) = l.0
@@ -187,6 +187,5 @@ module _ (k : Counts) (nws rws cws classes before : List ℕ) (s : State) (h : S
           words = refl;
           fits = omega arith;
           fresh = λ q. absurd (omega arith);
-          detail = h.detail;
         },
       )

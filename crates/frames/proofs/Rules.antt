@@ -24,7 +24,7 @@ use Rattle.frames.specs.Step.{StepIs}
 
 -- the counts behind a rule
 abbrev pub one_rule : Counts → Counts
-one_rule k = record { kind = 2; nodes = k.nodes; rules = k.rules + 1; connections = k.connections; offered = 0; detail = k.detail }
+one_rule k = record { kind = 2; nodes = k.nodes; rules = k.rules + 1; connections = k.connections; offered = 0 }
 
 -- a rule is taken only where there is room for it
 few-rules : (rs : List Rule) (o : Option Rule) {new : List Rule} → add_rule rs o ≡ good new → length rs < rule_limit
@@ -55,6 +55,5 @@ module _ (k : Counts) (nws before after cws classes area room : List ℕ) (s : S
           words = refl;
           fits = omega arith;
           fresh = λ _. free;
-          detail = h.detail;
         },
       )

@@ -1,7 +1,6 @@
 -- A FOLD OVER THE LINES AND THE END GIVES THE RUN: whatever meets the contracts of `turn` and `finish`, called line by line from the start,
 -- prints exactly the output of the input, over any split of the input into pieces.
 use Prim.Native.Nat.{ℕ, suc}
-use mathlib.Core.Bool.{Bool}
 use mathlib.Core.List.{List, [], ◌∷◌, ◌++◌}
 use mathlib.Core.Path.{◌≡◌, refl, sym, ap, ap₂, ◌∙◌}
 use native.Mathlib.Omega.{arith}
@@ -75,9 +74,9 @@ ran-run {k} {t} {line} (goes x xs j n u room p r) s h =
     gone s line x xs _ j n u room _ (line_turn s line (line_bytes x)) refl (p s h) (λ s' g. ran-run r s' g)
 
 -- before the first line any tables hold the start
-pub at-start : (d : Bool) (t : Store) → Holds (no_counts d) t (start d)
+pub at-start : (t : Store) → Holds no_counts t start
 unfolding entries
-at-start d t =
+at-start t =
     record {
       kind = refl;
       nodes = refl;
@@ -88,10 +87,9 @@ at-start d t =
       words = refl;
       fits = omega arith;
       fresh = λ _. refl;
-      detail = refl;
     }
 
 -- and so the program prints the output of its input, in whatever pieces it comes
-pub prints : (d : Bool) (t : Store) (pieces : List (List ℕ)) {out : List ℕ} →
-    Ran (no_counts d) t 1 (feed_all [] pieces).whole (feed_all [] pieces).rest out → out ≡ output d (together pieces)
-prints d t pieces r = ran-run r (start d) (at-start d t) ∙ any-split d pieces
+pub prints : (t : Store) (pieces : List (List ℕ)) {out : List ℕ} →
+    Ran no_counts t 1 (feed_all [] pieces).whole (feed_all [] pieces).rest out → out ≡ output (together pieces)
+prints t pieces r = ran-run r start (at-start t) ∙ any-split pieces

@@ -22,7 +22,7 @@ use Rattle.frames.specs.Step.{StepIs}
 
 -- the counts behind so many words
 abbrev pub open_words : Counts → ℕ → Counts
-open_words k n = record { kind = 5; nodes = k.nodes; rules = k.rules; connections = k.connections; offered = n; detail = k.detail }
+open_words k n = record { kind = 5; nodes = k.nodes; rules = k.rules; connections = k.connections; offered = n }
 
 -- a frame that offers so many words
 pub record Offers (o : Option (List ℕ)) (n : ℕ) : Type 0 where
@@ -84,6 +84,5 @@ module _ (k : Counts) (nws rws cws classes before after room : List ℕ) (s : St
             words = open-now;
             fits = p;
             fresh = λ x. absurd (omega arith);
-            detail = h.detail;
           },
         )

@@ -1,5 +1,5 @@
 -- A run of the program on values: line after line by whatever meets the contract of `turn`, then the end of the input.
-use Rattle.std.specs.Prelude.{ℕ, suc, Bool, List, [], ◌∷◌, ◌++◌, length, take}
+use Rattle.std.specs.Prelude.{ℕ, suc, List, [], ◌∷◌, ◌++◌, length, take}
 use Rattle.frames.specs.declared.Counts.{Counts}
 use Rattle.frames.specs.declared.Printed.{Printed}
 use Rattle.frames.specs.declared.Printed.TheVariants.{Goes as Taken, Stops}
@@ -26,6 +26,6 @@ pub data Ran : Counts → Store → ℕ → List (List ℕ) → List ℕ → Lis
   goes : {k : Counts} {t : Store} {line : ℕ} {rest out : List ℕ} (x : List ℕ) (xs : List (List ℕ)) (j : Counts) (n : ℕ) (u : Store) (room : List ℕ) →
       Turned k t line x (Taken j n) u room → Ran j u (suc line) xs rest out → Ran k t line (x ∷ xs) rest (take n room ++ out)
 
--- before the first line nothing counts; rejections are told in detail or not
-abbrev pub no_counts : Bool → Counts
-no_counts d = record { kind = 0; nodes = 0; rules = 0; connections = 0; offered = 0; detail = d }
+-- before the first line nothing counts
+abbrev pub no_counts : Counts
+no_counts = record { kind = 0; nodes = 0; rules = 0; connections = 0; offered = 0 }

@@ -34,7 +34,7 @@ text_room = program_area / flat_words * 28 + report_room
 
 -- The counted entries are the run's tables, each accepted behind those before it; the counted words are those of the open proof. What
 -- stands behind them plays no part. The classes are those of the connections, once there is one; before the first frame of a
--- connection there is none. Whether a rejection is told in detail is the same.
+-- connection there is none.
 pub record Stands (k : Counts) (nws rws cws classes area : List ℕ) (s : State) : Type 0 where
   pub kind : s.kind ≡ k.kind
   pub nodes : nodes_to nws k.nodes ≡ good s.tables.nodes
@@ -45,7 +45,6 @@ pub record Stands (k : Counts) (nws rws cws classes area : List ℕ) (s : State)
   pub words : take k.offered area ≡ s.open-words
   pub fits : k.offered ≤ program_area
   pub fresh : k.kind < connection_kind → k.connections ≡ 0
-  pub detail : s.detail ≡ k.detail
 
 -- what judging a connection wants of it
 pub record Held (k : Counts) (nws cws classes : List ℕ) : Type 0 where

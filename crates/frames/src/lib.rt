@@ -27,8 +27,7 @@ pub const AREA_WORDS: usize = 32768;
 // Room for what a line prints: 28 bytes for each node of the longest proof that fits the area, and a report.
 pub const TEXT_ROOM: usize = AREA_WORDS / FLAT_WORDS * 28 + REPORT_ROOM;
 
-// The kind of the last frame, how many entries each table has, and how many words the open proof; and, the same all through a run,
-// whether a rejection is told in detail.
+// The kind of the last frame, how many entries each table has, and how many words the open proof.
 #[derive(Drop)]
 pub struct Counts {
     pub kind: u8,
@@ -36,7 +35,6 @@ pub struct Counts {
     pub rules: usize,
     pub connections: usize,
     pub offered: usize,
-    pub detail: bool,
 }
 
 // What a frame comes to: it is taken and prints so many bytes, or the run is refused.

@@ -34,7 +34,6 @@ pub fn node_step(counts: Counts, bytes: &[u8], nodes: &mut [u16]) -> Step
                 rules: counts.rules,
                 connections: counts.connections,
                 offered: 0,
-                detail: counts.detail,
             },
             0,
         ),
@@ -76,7 +75,6 @@ pub fn connection_step(
                 rules: counts.rules,
                 connections: age + 1,
                 offered: 0,
-                detail: counts.detail,
             },
             0,
         ),
@@ -101,7 +99,6 @@ fn add_words(counts: Counts, words: usize, bytes: &[u8], area: &mut [u16]) -> St
             rules: counts.rules,
             connections: counts.connections,
             offered: end,
-            detail: counts.detail,
         },
         0,
     )
@@ -135,7 +132,6 @@ pub fn rule_step(counts: Counts, bytes: &[u8], rules: &mut [u16]) -> Step
                 rules: n + 1,
                 connections: counts.connections,
                 offered: 0,
-                detail: counts.detail,
             },
             0,
         ),
@@ -160,7 +156,7 @@ pub fn close_step(
     let end = counts.rules * RULE_WORDS;
     let words = counts.offered;
     let verdict = checker::check(&rules[..end], &area[..words]);
-    let printed = put_verdict(room, verdict, counts.detail);
+    let printed = put_verdict(room, verdict);
     Step::Goes(
         Counts {
             kind: 6,
@@ -168,7 +164,6 @@ pub fn close_step(
             rules: counts.rules,
             connections: counts.connections,
             offered: 0,
-            detail: counts.detail,
         },
         printed,
     )
@@ -236,7 +231,6 @@ pub fn query_step(
                     rules: counts.rules,
                     connections: counts.connections,
                     offered: 0,
-                    detail: counts.detail,
                 },
                 printed,
             )

@@ -60,8 +60,8 @@ module _ (ws : List ℕ) (at nodes pending : ℕ) (f : Terms) (r : RestOf ws at 
         room = t.room;
       }
 
-  pub at_mark_lem : 0 < pending → AtMark ws at nodes pending f
-  at_mark_lem l = go l (from_mark f) refl
+  pub at_mark : 0 < pending → AtMark ws at nodes pending f
+  at_mark l = go l (from_mark f) refl
 
 module _ (ws : List ℕ) (at nodes pending : ℕ) (l : 0 < pending) where
   abbrev below_at : ℕ
@@ -74,20 +74,20 @@ module _ (ws : List ℕ) (at nodes pending : ℕ) (l : 0 < pending) where
     -- a second mark is left
     pub two-marks : (pending' ≡ 0 → ⊥) → marks f ≡ 1 → ⊥
     two-marks h e =
-        let a = at_mark_lem ws at nodes pending f r l in
+        let a = at_mark ws at nodes pending f r l in
         let b = q a.below a.row in
         omega (arith, a.counted, e, some_left a.below (from_mark a.below) refl (λ z. h (sym b.left.counted ∙ z)))
 
     -- none is
     pub one_only : pending' ≡ 0 → marks f ≡ 1
     one_only z =
-        let a = at_mark_lem ws at nodes pending f r l in
+        let a = at_mark ws at nodes pending f r l in
         omega (arith, a.counted, none_left ws below_at nodes' pending' a.below (q a.below a.row) z)
 
     pub whole-size : pending' ≡ 0 → size f ≡ nodes + suc nodes'
     unfolding size
     whole-size z =
-        let a = at_mark_lem ws at nodes pending f r l in
+        let a = at_mark ws at nodes pending f r l in
         let b = q a.below a.row in
         omega (arith, a.sized, b.walked, ap size (count_none (from_mark a.below) (b.left.counted ∙ z)))
 

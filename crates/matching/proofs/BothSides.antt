@@ -1,96 +1,102 @@
--- A rule is matched on its left side with nothing bound, and then on its right side with what that bound.
+-- A rule fits when the left side is matched with nothing bound, and then the right side with what that bound.
 -- Assumes nothing.
 use Prim.Native.Nat.{ℕ, ◌<◌}
 use mathlib.Core.List.{List}
-use mathlib.Core.Path.{◌≡◌, refl, sym, ap, ◌∙◌}
+use mathlib.Core.Path.{◌≡◌, refl, ap, subst}
 use native.Mathlib.Omega.{arith}
+use native.Mathlib.Decide.{dec_lt}
 use lib.ListN.{replicate, get_or-replicate}
 use Rattle.model.specs.declared.Span.{Span}
 use Rattle.model.specs.declared.Bindings.{Bindings}
-use Rattle.model.specs.declared.Fit.TheVariants.{Fits, Off}
-use Rattle.model.specs.declared.RuleSide.TheVariants.{Left, Right}
 use Rattle.model.specs.Limits.{variable_limit}
-use Rattle.model.specs.Term.{Term, one}
-use Rattle.model.specs.Pattern.{Patterns, items, Bound, unbound, Matched, binds, misses, off_in, left_first, match, fit}
-use Rattle.terms.specs.Place.{TermAt, Well}
-use Rattle.terms.proofs.Place.{term-row}
-use Rattle.matching.specs.declared.SideEnd.{SideEnd}
-use Rattle.matching.specs.declared.SideEnd.TheVariants.{AllBound, Misses}
+use Rattle.model.specs.Term.{unmarked, no_terms, Term, one, stripped}
+use Rattle.model.specs.Pattern.{Patterns, Substitution, Instance, fits}
+use Rattle.terms.specs.Place.{TermAt, Well, Decides}
+use Rattle.terms.proofs.Place.{term-row, term-same}
+use Rattle.terms.proofs.Only.{one_answer}
+use Rattle.matching.specs.declared.Fit.{Fit}
+use Rattle.matching.specs.declared.Fit.TheVariants.{Fits, Off}
 use Rattle.matching.specs.declared.SideFit.{SideFit}
 use Rattle.rule_table.specs.Slots.{PatternsAt, Side}
-use Rattle.matching.specs.Match.{Holds, Valid, Rows, MatchBy, MatchIs, FitIs}
+use Rattle.matching.proofs.Matching.{fits-decides}
+use Rattle.matching.specs.Match.{is_fit, span_of, IsBound, TermOf, Valid, Agrees, Rows, SideMeans, MatchBy, MatchIs, FitIs}
 
 -- nothing is bound yet
 abbrev pub none_bound : Bindings
 none_bound = record { spans = replicate variable_limit (record { start = 0; end = 0 }) }
 
-none-holds : (ws : List ℕ) → Holds ws none_bound unbound
-none-holds ws =
-    record {
-      size = refl;
-      is = λ x l. let z : Span = record { start = 0; end = 0 } in rw (get_or-replicate variable_limit x z z l) (omega arith);
-    }
+none-bound : (x : ℕ) → IsBound none_bound x → x < variable_limit → ⊥
+none-bound x b l =
+    let z : Span = record { start = 0; end = 0 } in
+    omega (arith, rw (get_or-replicate variable_limit x z z l) at b)
 
 pub none-valid : (ws : List ℕ) → Valid ws none_bound
-none-valid ws = record { bound = unbound; holds = none-holds ws }
+none-valid ws = record { size = refl; terms = λ x l b. absurd (none-bound x b l) }
+
+none-agrees : (ws : List ℕ) (σ : Substitution) → Agrees ws none_bound σ
+none-agrees ws σ x l b = absurd (none-bound x b l)
+
+-- what is bound has a substitution
+module _ (ws : List ℕ) (b : Bindings) (v : Valid ws b) where
+  choose : (x : ℕ) → Dec (x < variable_limit) → Dec (IsBound b x) → Term
+  choose x (yes l) (yes bd) = stripped (v.terms x l bd).term
+  choose x (yes l) (no f) = record { op = 0; mark = unmarked; kids = no_terms }
+  choose x (no f) d = record { op = 0; mark = unmarked; kids = no_terms }
+
+  chosen : (x : ℕ) (p : Dec (x < variable_limit)) (d : Dec (IsBound b x)) → x < variable_limit → IsBound b x
+      → (t : Term) → TermOf ws b x t → stripped t ≡ choose x p d
+  unfolding choose
+  chosen x (yes l) (yes bd) l' bd' t ht = let w = v.terms x l bd in ap stripped (term-same ws _ _ _ t w.term ht w.is)
+  chosen x (yes l) (no f) l' bd' t ht = absurd (f bd')
+  chosen x (no f) d l' bd' t ht = absurd (f l')
+
+  record Some : Type 0 where
+    σ : Substitution
+    agrees : Agrees ws b σ
+
+  some-agrees : Some
+  some-agrees =
+      record {
+        σ = λ x. choose x (dec_lt x variable_limit) (dec_lt (span_of b x).start (span_of b x).end);
+        agrees = λ x. chosen x (dec_lt x variable_limit) (dec_lt (span_of b x).start (span_of b x).end);
+      }
 
 -- one pattern, and one term
 pub side-rows : (ps ws : List ℕ) (at : ℕ) (s : Side ps) (w : Well ws at) → Rows ps 0 1 ws at
 side-rows ps ws at s w =
     record { patterns = s.pattern; terms = one w.term; is_p = s.is; is_t = term-row ws at w.end w.term w.is }
 
--- what the end of a side tells of the definition's match
-record Ends (ws : List ℕ) (r : SideFit) (m : Matched) : Type 0 where
-  bound : Bound
-  is : m ≡ binds bound
-  holds : Holds ws r.bound bound
-
-ends : (ws : List ℕ) (r : SideFit) (m : Matched) → MatchBy m ws r → r.end ≡ AllBound → Ends ws r m
-ends ws r (binds γ) h e = record { bound = γ; is = refl; holds = h.1 }
-ends ws r (misses i) h e = let z : ◌≡◌ {A = ℕ} 0 1 = cc in absurd (omega arith)
-
-missed : (ws : List ℕ) (r : SideFit) (m : Matched) (i : ℕ) → MatchBy m ws r → r.end ≡ Misses i → m ≡ misses i
-missed ws r (binds γ) i h e = let p = h.0 in let z : ◌≡◌ {A = ℕ} 0 1 = cc in absurd (omega arith)
-missed ws r (misses j) i h e = let p : j ≡ i = cc in ap misses p
-
 module _ (pl pr ws : List ℕ) (a b : ℕ) (m : SideFit) (first : MatchIs pl 0 1 ws a none_bound m) where
-  left-told : (l : Patterns) (e : ℕ) (t : Term) → PatternsAt pl 0 1 l → TermAt ws a e t → MatchBy (match (items l) (one t) 0 unbound) ws m
-  left-told l e t hl ht = first l (one t) hl (term-row ws a e t ht) unbound (none-holds ws)
+  pub fit-off : m.fit ≡ Off → FitIs pl pr ws a b Off
+  fit-off ok l l' hl hl' e e' t u ht hu i =
+      subst (λ (o : Fit). MatchBy o ws none_bound m.bound l (one t)) ok (first l (one t) hl (term-row ws a e t ht)) i.σ
+      (record { agrees = none-agrees ws i.σ; makes = i.left })
 
-  pub left-off : (i : ℕ) → m.end ≡ Misses i → FitIs pl pr ws a b (Off Left i)
-  unfolding fit
-  left-off i z l l' hl hl' e e' t u ht hu =
-      sym (ap (λ (x : Matched). left_first x (match (items l') (one u) 0)) (missed ws m (match (items l) (one t) 0 unbound) i (left-told l e t hl ht) z))
+  left-fits : m.fit ≡ Fits → (l : Patterns) (e : ℕ) (t : Term) → PatternsAt pl 0 1 l → TermAt ws a e t
+      → SideMeans ws none_bound m.bound l (one t)
+  left-fits ok l e t hl ht =
+      subst (λ (o : Fit). MatchBy o ws none_bound m.bound l (one t)) ok (first l (one t) hl (term-row ws a e t ht))
 
-  left-ends : m.end ≡ AllBound → (l : Patterns) (e : ℕ) (t : Term) → PatternsAt pl 0 1 l → TermAt ws a e t
-      → Ends ws m (match (items l) (one t) 0 unbound)
-  left-ends z l e t hl ht = ends ws m (match (items l) (one t) 0 unbound) (left-told l e t hl ht) z
+  pub left-valid : m.fit ≡ Fits → Side pl → Well ws a → Valid ws m.bound
+  left-valid ok s w = (left-fits ok s.pattern w.end w.term s.is w.is).valid
 
-  pub left-valid : m.end ≡ AllBound → Side pl → Well ws a → Valid ws m.bound
-  left-valid z s w =
-      let x = left-ends z s.pattern w.end w.term s.is w.is in
-      record { bound = x.bound; holds = x.holds }
+  fit-go : (k : SideFit) (o : Fit) (l l' : Patterns) (t u : Term) → SideMeans ws none_bound m.bound l (one t)
+      → MatchBy o ws m.bound k.bound l' (one u) → Decides (is_fit o) (Instance l l' (one t) (one u))
+  fit-go k Fits l l' t u f s =
+      let w = some-agrees ws k.bound s.valid in
+      let y = (s.same w.σ).0 w.agrees in
+      record { σ = w.σ; left = ((f.same w.σ).0 y.agrees).makes; right = y.makes }
+  fit-go k Off l l' t u f s = λ i.
+      s i.σ
+      (record { agrees = (f.same i.σ).1 (record { agrees = none-agrees ws i.σ; makes = i.left }); makes = i.right })
 
-  module _ (z : m.end ≡ AllBound) (k : SideFit) (second : MatchIs pr 0 1 ws b m.bound k) where
-    -- the match of the right side, over what the left side bound
-    abbrev right : (l l' : Patterns) (e : ℕ) (t u : Term) → PatternsAt pl 0 1 l → TermAt ws a e t → Matched
-    right l l' e t u hl ht = match (items l') (one u) 0 (left-ends z l e t hl ht).bound
+  pub fit_on : m.fit ≡ Fits → (k : SideFit) → MatchIs pr 0 1 ws b m.bound k → FitIs pl pr ws a b k.fit
+  fit_on ok k second l l' hl hl' e e' t u ht hu =
+      fit-go k k.fit l l' t u (left-fits ok l e t hl ht) (second l' (one u) hl' (term-row ws b e' u hu))
 
-    right-told : (l l' : Patterns) (e e' : ℕ) (t u : Term) (hl : PatternsAt pl 0 1 l) (hl' : PatternsAt pr 0 1 l') (ht : TermAt ws a e t) (hu : TermAt ws b e' u)
-        → MatchBy (right l l' e t u hl ht) ws k
-    right-told l l' e e' t u hl hl' ht hu =
-        let x = left-ends z l e t hl ht in
-        second l' (one u) hl' (term-row ws b e' u hu) x.bound x.holds
-
-    both : (l l' : Patterns) (e : ℕ) (t u : Term) (hl : PatternsAt pl 0 1 l) (ht : TermAt ws a e t)
-        → off_in Right (right l l' e t u hl ht) ≡ fit l l' (one t) (one u)
-    unfolding fit
-    both l l' e t u hl ht = sym (ap (λ (x : Matched). left_first x (match (items l') (one u) 0)) (left-ends z l e t hl ht).is)
-
-    pub right-off : (i : ℕ) → k.end ≡ Misses i → FitIs pl pr ws a b (Off Right i)
-    right-off i z' l l' hl hl' e e' t u ht hu =
-        sym (ap (off_in Right) (missed ws k (right l l' e t u hl ht) i (right-told l l' e e' t u hl hl' ht hu) z')) ∙ both l l' e t u hl ht
-
-    pub both-on : k.end ≡ AllBound → FitIs pl pr ws a b Fits
-    both-on z' l l' hl hl' e e' t u ht hu =
-        sym (ap (off_in Right) (ends ws k (right l l' e t u hl ht) (right-told l l' e e' t u hl hl' ht hu) z').is) ∙ both l l' e t u hl ht
+-- the answer is the model's
+pub fit_is : (pl pr ws : List ℕ) (a b : ℕ) (r : Fit) → FitIs pl pr ws a b r → (l l' : Patterns) → PatternsAt pl 0 1 l
+    → PatternsAt pr 0 1 l'
+    → (e e' : ℕ) (t u : Term) → TermAt ws a e t → TermAt ws b e' u → is_fit r ≡ fits l l' (one t) (one u)
+fit_is pl pr ws a b r h l l' hl hl' e e' t u ht hu =
+    one_answer (is_fit r) (fits l l' (one t) (one u)) _ (h l l' hl hl' e e' t u ht hu) (fits-decides l l' (one t) (one u))

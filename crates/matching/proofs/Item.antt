@@ -1,112 +1,145 @@
--- One item that met a term: the definition's match goes on as the code does.
+-- What one item says of every substitution.
 -- Assumes nothing.
-use Prim.Native.Nat.{ℕ, suc, ◌+◌, ◌*◌}
-use mathlib.Core.List.{List, ◌++◌}
-use mathlib.Core.Bool.{Bool, true, false, ◌&&◌}
-use mathlib.Core.Option.{Option, none, some}
-use mathlib.Core.Path.{◌≡◌, refl, ap, sym, subst, ◌∙◌}
-use native.Mathlib.Numerals.{add-one}
+use Prim.Native.Nat.{ℕ, ◌+◌}
+use mathlib.Core.List.{List}
+use mathlib.Core.Bool.{Bool, true, false, false≢true}
+use mathlib.Core.Path.{◌≡◌, refl, ap, sym, ◌∙◌}
+use mathlib.Core.Logic.{◌↔◌}
 use native.Mathlib.Omega.{arith}
-use lib.Dec.{eqb}
 use Rattle.model.specs.Limits.{flat_words}
 use Rattle.model.specs.Tables.{item_words}
 use Rattle.model.specs.declared.OpNo.{OpNo}
 use Rattle.model.specs.declared.Bindings.{Bindings}
-use Rattle.model.specs.Term.{Mark, Terms, no_terms, tree, Term, put, count, join, same_op}
-use Rattle.model.specs.Pattern.{Patterns, no_patterns, var, app, count_p, items, Bound, meet, Matched, misses, go_on, keep_if, match}
+use Rattle.model.specs.Term.{Mark, unmarked, Terms, no_terms, tree, Term, put, count, join, strip, stripped}
+use Rattle.model.specs.Pattern.{Patterns, no_patterns, var, app, count_p, Substitution, inst}
 use Rattle.terms.specs.Place.{node_of, same_head, RowAt}
+use Rattle.terms.proofs.Rows.{strip-join, count-strip, join-inj}
 use Rattle.terms.proofs.Place.{Tree, row-tree}
-use Rattle.terms.proofs.SameWalk.{heads}
+use Rattle.terms.proofs.SameWalk.{heads, heads-same}
+use Rattle.matching.specs.declared.Fit.{Fit}
+use Rattle.matching.specs.declared.Fit.TheVariants.{Fits, Off}
 use Rattle.matching.specs.declared.ItemFit.{ItemFit}
 use Rattle.rule_table.specs.declared.Slot.TheVariants.{Variable, Operator, Outside}
 use Rattle.rule_table.specs.Slots.{item_at, slot_of, PatternsAt}
 use Rattle.rule_table.proofs.Patterns.{join_p}
-use Rattle.matching.specs.Match.{Holds, BindBy, BindIs, op_step, ItemFits, ItemBy, ItemIs}
-use Rattle.matching.proofs.Patterns.{items-join, row-var, App, row-app}
+use Rattle.matching.specs.Match.{fit_if, Valid, Means, BindBy, BindIs, op_step, ItemMeans, ItemBy, ItemIs}
+use Rattle.matching.proofs.Patterns.{inst-join, count-inst, row-var, App, row-app}
 
--- the item behind the one of that number
-next-item : (item : ℕ) → item_words * item + item_words ≡ item_words * (item + 1)
-next-item item = omega arith
+-- a variable in front: the term is the variable's, and the rows behind are matched
+pub var-means : (σ : Substitution) (x : ℕ) (s : Patterns) (t : Term) (f : Terms)
+    → (strip (put t f) ≡ inst σ (var x s)) ↔ ((stripped t ≡ σ x) × (strip f ≡ inst σ s))
+unfolding strip inst
+var-means σ x s t f = (
+  (λ e.
+      let p : t.op ≡ (σ x).op = cc in
+      let q : unmarked ≡ (σ x).mark = cc in
+      let r : strip t.kids ≡ (σ x).kids = cc in
+      let z : strip f ≡ inst σ s = cc in
+      ((λ i. record { op = p i; mark = q i; kids = r i }), z)),
+  λ p. rw (← p.0, p.1),
+)
+
+-- an operator in front: the children with the rows behind are matched
+app-means : (σ : Substitution) (o : ℕ) (k s : Patterns) (m : Mark) (k' s' : Terms) → count_p k ≡ count k'
+    → (strip (tree o m k' s') ≡ inst σ (app o k s)) ↔ (strip (join k' s') ≡ inst σ (join_p k s))
+unfolding strip inst
+app-means σ o k s m k' s' c = (
+  (λ e.
+      let p : strip k' ≡ inst σ k = cc in
+      let q : strip s' ≡ inst σ s = cc in
+      rw (strip-join, inst-join, p, q)),
+  λ e.
+      let p = join-inj (strip k') (inst σ k) (strip s') (inst σ s) (count-strip k' ∙ sym c ∙ sym (count-inst σ k)) (sym (strip-join k' s') ∙ e ∙ inst-join σ k s) in
+      rw (p.front, p.back),
+)
 
 module _ (ps : List ℕ) (item : ℕ) (ws : List ℕ) (at : ℕ) (b : Bindings) (r : ItemFit) where
   -- a variable's item
-  bind-at : (n x : ℕ) (s : Patterns) (t : Term) (f : Terms) (e : ℕ) (β : Bound) (o : Option Bound) → meet (β x) β x t ≡ o
-      → PatternsAt ps (item_words * item + item_words) n s → RowAt ws e n f → BindBy o ws r e → ItemBy r.fits ps item ws r n (var x s) (put t f) β
-  unfolding match items
-  bind-at n x s t f e β none z p h d = rw d (ap (λ (o : Option Bound). go_on o item (match (items s) f (suc item))) z)
-  bind-at n x s t f e β (some γ) z p h d =
+  bind-at : (n x : ℕ) (s : Patterns) (t : Term) (f : Terms) (e : ℕ) (o : Fit) → PatternsAt ps (item + item_words) n s → RowAt ws e n f
+      → BindBy o ws x b r e t → ItemBy o ps item ws b r n (var x s) (put t f)
+  bind-at n x s t f e Fits p h d =
       let m : n ≡ r.more + n = omega (arith, d.leaf) in
-      rw d.fits
-      (record {
-        rows = record {
-          patterns = s;
-          terms = f;
-          is_p = subst (λ (k : ℕ). PatternsAt ps k (r.more + n) s) (next-item item) (rw m at p);
-          is_t = rw d.ends (rw m at h);
-        };
-        bound = γ;
-        holds = d.holds;
-        same = ap (λ (o : Option Bound). go_on o item (match (items s) f (suc item))) z ∙ rw add-one;
-      })
+      record {
+        valid = d.valid;
+        rows = record { patterns = s; terms = f; is_p = rw m at p; is_t = rw d.ends (rw m at h) };
+        same = λ σ. (
+          (λ w.
+              let a = (d.same σ).0 w.agrees in
+              record { agrees = a.0; makes = (var-means σ x s t f).1 (a.1, w.makes) }),
+          λ w.
+              let v = (var-means σ x s t f).0 w.makes in
+              record { agrees = (d.same σ).1 (w.agrees, v.0); makes = v.1 },
+        );
+      }
+  bind-at n x s t f e Off p h d = λ σ w. d σ w.agrees ((var-means σ x s t f).0 w.makes).0
 
-  pub bind-step : (x : ℕ) → slot_of (item_at ps (item_words * item)) ≡ Variable x → BindIs ws x at b r → ItemIs ps item ws at b r
+  pub bind-step : (x : ℕ) → slot_of (item_at ps item) ≡ Variable x → BindIs ws x at b r → ItemIs ps item ws at b r
   unfolding count_p count
   bind-step y i d n no_patterns f hp hf = absurd (omega (arith, hp.counted))
-  bind-step y i d n (app o k s) f hp hf = let p = (row-app ps (item_words * item) n o k s hp).slot in let z : ◌≡◌ {A = ℕ} 0 1 = cc in absurd (omega arith)
+  bind-step y i d n (app o k s) f hp hf = let p = (row-app ps item n o k s hp).slot in let z : ◌≡◌ {A = ℕ} 0 1 = cc in absurd (omega arith)
   bind-step y i d n (var x s) no_terms hp hf = absurd (omega (arith, hf.counted))
-  bind-step y i d n (var x s) (tree o m k s') hp hf = λ β hb.
-      let v = row-var ps (item_words * item) n x s hp in
+  bind-step y i d n (var x s) (tree o m k s') hp hf =
+      let v = row-var ps item n x s hp in
       let h = row-tree ws at n o m k s' hf in
       let t : Term = record { op = o; mark = m; kids = k } in
       let p = v.slot in
       let e : y ≡ x = cc in
-      bind-at n x s t s' h.stop β (meet (β x) β x t) refl v.behind h.behind (rw e at (d β hb h.stop t h.term))
+      bind-at n x s t s' h.stop r.fit v.behind h.behind (rw e at (d h.stop t h.term))
 
   -- an item is a variable or an operator
-  pub other_step : slot_of (item_at ps (item_words * item)) ≡ Outside → ItemIs ps item ws at b r
+  pub other_step : slot_of (item_at ps item) ≡ Outside → ItemIs ps item ws at b r
   unfolding count_p
   other_step i n no_patterns f hp hf = absurd (omega (arith, hp.counted))
-  other_step i n (var x s) f hp hf = let p = (row-var ps (item_words * item) n x s hp).slot in let z : ◌≡◌ {A = ℕ} 0 1 = cc in absurd (omega arith)
-  other_step i n (app o k s) f hp hf = let p = (row-app ps (item_words * item) n o k s hp).slot in let z : ◌≡◌ {A = ℕ} 0 1 = cc in absurd (omega arith)
+  other_step i n (var x s) f hp hf = let p = (row-var ps item n x s hp).slot in let z : ◌≡◌ {A = ℕ} 0 1 = cc in absurd (omega arith)
+  other_step i n (app o k s) f hp hf = let p = (row-app ps item n o k s hp).slot in let z : ◌≡◌ {A = ℕ} 0 1 = cc in absurd (omega arith)
 
-module _ (ps : List ℕ) (item : ℕ) (ws : List ℕ) (at : ℕ) (b : Bindings) where
-  -- an operator's item: its node agrees and its children follow, or it differs
-  op-go : (n o : ℕ) (k s : Patterns) (o' : ℕ) (m : Mark) (k' s' : Terms) (β : Bound) → Holds ws b β → Tree ws at n o' m k' s'
-      → App ps (item_words * item) n o k s → (r : Bool) → same_head (node_of ws at) o (count_p k) ≡ r
-      → ItemBy r ps item ws (op_step ws o (count_p k) at b) n (app o k s) (tree o' m k' s') β
-  unfolding match items
-  op-go n o k s o' m k' s' β hb h w r e = by r test (λ p. (heads (node_of ws at) o (count_p k) (e ∙ p)).count)
-    where
-      test : (same_op o' o && eqb (count k') (count_p k)) ≡ r
-      test = sym (λ i. same_op (h.op i) o && eqb (h.kids i) (count_p k)) ∙ e
+-- an operator's item: its node differs
+op-off : (ws : List ℕ) (b : Bindings) (o : ℕ) (k s : Patterns) (o' : ℕ) (m : Mark) (k' s' : Terms) → (o' ≡ o → count k' ≡ count_p k → ⊥)
+    → (σ : Substitution) → Means ws b (tree o' m k' s') (app o k s) σ → ⊥
+unfolding strip inst
+op-off ws b o k s o' m k' s' d σ w =
+    let e = w.makes in
+    let p : o' ≡ o = cc in
+    let q : strip k' ≡ inst σ k = cc in
+    d p (sym (count-strip k') ∙ ap count q ∙ count-inst σ k)
 
-      by : (r : Bool) → (same_op o' o && eqb (count k') (count_p k)) ≡ r → (r ≡ true → (node_of ws at).count ≡ count_p k)
-          → ItemBy r ps item ws (op_step ws o (count_p k) at b) n (app o k s) (tree o' m k' s') β
-      by false z d = ap (λ (c : Bool). go_on (keep_if c β) item (match (items k ++ items s) (join k' s') (suc item))) z
-      by true z d =
-          let c : count k' + n ≡ count_p k + n = omega (arith, d refl, h.kids) in
-          record {
-            rows = record {
-              patterns = join_p k s;
-              terms = join k' s';
-              is_p = subst (λ (i : ℕ). PatternsAt ps i (count_p k + n) (join_p k s)) (next-item item) w.below;
-              is_t = subst (λ (c : ℕ). RowAt ws (at + flat_words) c (join k' s')) c h.below;
-            };
-            bound = β;
-            holds = hb;
-            same = rw (z, items-join, add-one) refl;
-          }
+module _ (ps : List ℕ) (item : ℕ) (ws : List ℕ) (at : ℕ) (b : Bindings) (v : Valid ws b) where
+  -- or its children follow
+  op-on : (r : Fit) (n o : ℕ) (k s : Patterns) (m : Mark) (k' s' : Terms) → count_p k ≡ count k'
+      → PatternsAt ps (item + item_words) (count_p k + n) (join_p k s) → RowAt ws (at + flat_words) (count k' + n) (join k' s')
+      → ItemMeans ps item ws b (record { fit = r; at = at + flat_words; more = count_p k; bound = b }) n (app o k s) (tree o m k' s')
+  op-on r n o k s m k' s' c hp hf =
+      record {
+        valid = v;
+        rows = record { patterns = join_p k s; terms = join k' s'; is_p = hp; is_t = rw (← c) at hf };
+        same = λ σ. (
+          (λ w. record { agrees = w.agrees; makes = (app-means σ o k s m k' s' c).1 w.makes }),
+          λ w. record { agrees = w.agrees; makes = (app-means σ o k s m k' s' c).0 w.makes },
+        );
+      }
 
-  pub op-step : (r : ItemFit) (x : OpNo) (y : ℕ) → slot_of (item_at ps (item_words * item)) ≡ Operator x y → r ≡ op_step ws x.0 y at b
+  op-go : (n o : ℕ) (k s : Patterns) (o' : ℕ) (m : Mark) (k' s' : Terms) → Tree ws at n o' m k' s' → App ps item n o k s
+      → (r : Bool) → same_head (node_of ws at) o (count_p k) ≡ r
+      → ItemBy (fit_if r) ps item ws b (op_step ws o (count_p k) at b) n (app o k s) (tree o' m k' s')
+  op-go n o k s o' m k' s' h w false e =
+      op-off ws b o k s o' m k' s'
+      (λ p c. false≢true (sym e ∙ heads-same (node_of ws at) o (count_p k) (record { op = h.op ∙ p; count = h.kids ∙ c })))
+  op-go n o k s o' m k' s' h w true e =
+      let d = heads (node_of ws at) o (count_p k) e in
+      let p : o' ≡ o = sym h.op ∙ d.op in
+      let c : count_p k ≡ count k' = sym d.count ∙ h.kids in
+      rw p (op-on (fit_if (same_head (node_of ws at) o (count_p k))) n o k s m k' s' c w.below h.below)
+
+  pub op-step : (r : ItemFit) (x : OpNo) (y : ℕ) → slot_of (item_at ps item) ≡ Operator x y → r ≡ op_step ws x.0 y at b
       → ItemIs ps item ws at b r
   unfolding count_p count
   op-step r x y i e n no_patterns f hp hf = absurd (omega (arith, hp.counted))
-  op-step r x y i e n (var v s) f hp hf = let p = (row-var ps (item_words * item) n v s hp).slot in let z : ◌≡◌ {A = ℕ} 0 1 = cc in absurd (omega arith)
+  op-step r x y i e n (var v s) f hp hf = let p = (row-var ps item n v s hp).slot in let z : ◌≡◌ {A = ℕ} 0 1 = cc in absurd (omega arith)
   op-step r x y i e n (app o k s) no_terms hp hf = absurd (omega (arith, hf.counted))
-  op-step r x y i e n (app o k s) (tree o' m k' s') hp hf = λ β hb.
-      let w = row-app ps (item_words * item) n o k s hp in
+  op-step r x y i e n (app o k s) (tree o' m k' s') hp hf =
+      let w = row-app ps item n o k s hp in
       let d = w.slot in
       let p : x ≡ record { 0 = o } = cc in
       let q : y ≡ count_p k = cc in
       rw (e, p, q)
-      (op-go n o k s o' m k' s' β hb (row-tree ws at n o' m k' s' hf) w (same_head (node_of ws at) o (count_p k)) refl)
+      (op-go n o k s o' m k' s' (row-tree ws at n o' m k' s' hf) w (same_head (node_of ws at) o (count_p k)) refl)

@@ -2,8 +2,6 @@ pub mod Patterns
 pub mod Binding
 pub mod Item
 pub mod Match
-pub mod Fitting
 pub mod Matching
-pub mod Before
 pub mod BothSides
 pub mod Only

@@ -9,7 +9,7 @@ use native.Mathlib.Omega.{arith}
 use borrow.Author.Tests.{lt-ltb, le-leb}
 use lib.ListN.{length}
 use Rattle.model.specs.Limits.{child_limit, variable_limit}
-use Rattle.model.specs.Term.{count}
+use Rattle.model.specs.Term.{count, join}
 use Rattle.model.specs.Pattern.{Item, variable, operator, Patterns, no_patterns, var, app, count_p, items, NarrowP, Substitution, inst}
 use Rattle.model.specs.Tables.{item_words, item_front, items_from}
 use Rattle.rule_table.specs.declared.Slot.TheVariants.{Variable, Operator}
@@ -35,6 +35,12 @@ unfolding join_p NarrowP
 narrow_p-join no_patterns s g h = h
 narrow_p-join (var x r) s g h = (g.0, narrow_p-join r s g.1 h)
 narrow_p-join (app o k r) s g h = (g.0, g.1, narrow_p-join r s g.2 h)
+
+pub inst-join : (σ : Substitution) (k s : Patterns) → inst σ (join_p k s) ≡ join (inst σ k) (inst σ s)
+unfolding join_p join inst
+inst-join σ no_patterns s = refl
+inst-join σ (var x r) s = rw (inst-join σ r s)
+inst-join σ (app o k r) s = rw (inst-join σ r s)
 
 pub count-inst : (σ : Substitution) (q : Patterns) → count (inst σ q) ≡ count_p q
 unfolding inst count count_p

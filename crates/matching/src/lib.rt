@@ -1,36 +1,42 @@
-// Matching: whether some substitution makes a rule's two sides two given subterms, marks aside, or else the first item that does not fit. A
-// side is read item by item, as the rule table hands it out.
+// Matching: whether some substitution makes a rule's two sides two given subterms, marks aside. A side is read item by item, as
+// the rule table hands it out.
 ghost use Rattle.std.specs.Prelude.{◌≡◌, ◌+◌, ◌≤◌, ◌<◌, length};
 ghost use Rattle.model.specs.Limits.{variable_limit, flat_words};
 ghost use Rattle.terms.specs.Place.{Well};
 ghost use Rattle.rule_table.specs.Slots.{Side};
-ghost use Rattle.matching.specs.Match.{span_of, with_span, Valid, Rows, SomeRows, BindIs, op_step, ItemIs, MatchIs, FitIs};
+ghost use Rattle.matching.specs.Match.{fit_if, span_of, with_span, Valid, Rows, SomeRows, BindIs, op_step, ItemIs, MatchIs, FitIs};
 
-use model::{Bindings, FLAT_WORDS, Fit, ITEM_WORDS, OpNo, RuleSide, Span, VARIABLE_LIMIT};
+use model::{Bindings, FLAT_WORDS, ITEM_WORDS, OpNo, Span, VARIABLE_LIMIT};
 use rule_table::Slot;
 
-// What became of one item: whether it fits, where the terms go on, how many terms it adds to those still to be matched, and what is
-// bound.
+// Whether what was to fit does.
+#[derive(Drop)]
+pub enum Fit {
+    Fits,
+    Off,
+}
+
+// What became of one item: where the terms go on, how many terms the item adds to those still to be matched, and what is bound.
 #[derive(Drop)]
 struct ItemFit {
-    fits: bool,
+    fit: Fit,
     at: usize,
     more: usize,
     bound: Bindings,
 }
 
-// How a side ends: all of its variables are bound, or the number of the first item that does not fit.
-#[derive(Drop)]
-enum SideEnd {
-    AllBound,
-    Misses(usize),
-}
-
 // What became of a side, and what is bound.
 #[derive(Drop)]
 struct SideFit {
-    end: SideEnd,
+    fit: Fit,
     bound: Bindings,
+}
+
+// Whether a test that was made fits.
+fn fit_if(ok: bool) -> Fit
+    ensures { result ≡ fit_if ok }
+{
+    if ok { Fit::Fits } else { Fit::Off }
 }
 
 // What the variable `x` is bound to.
@@ -64,14 +70,14 @@ fn bind(words: &[u16], x: usize, at: usize, b: Bindings) -> ItemFit
     if from < s.end {
         let same = terms::same_term(words, from, at);
         return ItemFit {
-            fits: same,
+            fit: fit_if(same),
             at: e,
             more: 0,
             bound: b,
         };
     }
     ItemFit {
-        fits: true,
+        fit: Fit::Fits,
         at: e,
         more: 0,
         bound: with_span(b, x, Span { start: at, end: e }),
@@ -85,26 +91,26 @@ fn op_step(op: OpNo, count: u16, words: &[u16], at: usize, b: Bindings) -> ItemF
 {
     let n = terms::node_at(words, at);
     ItemFit {
-        fits: terms::same_head(n, op, count),
+        fit: fit_if(terms::same_head(n, op, count)),
         at: at + FLAT_WORDS,
         more: model::wide(count),
         bound: b,
     }
 }
 
-// The item of that number meets the term at `at`.
+// One item meets the term at `at`.
 fn item_step(side: &[u16], item: usize, words: &[u16], at: usize, b: Bindings) -> ItemFit
     requires valid { Valid words.now b }
     requires some_rows { SomeRows side.now item words.now at }
     ensures { ItemIs side.now item words.now at b result }
 {
-    let slot = rule_table::slot_at(side, ITEM_WORDS * item);
+    let slot = rule_table::slot_at(side, item);
     match slot {
         Slot::Variable(x) => bind(words, x, at, b),
         Slot::Operator(op, count) => op_step(op, count, words, at, b),
         // The slots hold patterns, so that this is never reached.
         Slot::Outside => ItemFit {
-            fits: false,
+            fit: Fit::Off,
             at: at,
             more: 0,
             bound: b,
@@ -127,24 +133,31 @@ fn match_side(
 {
     if pending == 0 {
         return SideFit {
-            end: SideEnd::AllBound,
+            fit: Fit::Fits,
             bound: b,
         };
     }
     let s = item_step(side, item, words, at, b);
+    let fit = s.fit;
     let bound = s.bound;
-    if !s.fits {
+    if let Fit::Off = fit {
         return SideFit {
-            end: SideEnd::Misses(item),
+            fit: Fit::Off,
             bound: bound,
         };
     }
-    match_side(side, item + 1, pending - 1 + s.more, words, s.at, bound)
+    match_side(
+        side,
+        item + ITEM_WORDS,
+        pending - 1 + s.more,
+        words,
+        s.at,
+        bound,
+    )
 }
 
-// Whether some substitution makes the left side the term at `a` and the right side the term at `b`, or else the side and the item that is
-// the first not to fit. The left side is always matched first, so that a variable that stands only there is bound; a backward step
-// exchanges the terms, not the sides.
+// Whether some substitution makes the left side the term at `a` and the right side the term at `b`. The left side is always
+// matched first, so that a variable that stands only there is bound; a backward step exchanges the terms, not the sides.
 pub fn rule_fits(left: &[u16], right: &[u16], words: &[u16], a: usize, b: usize) -> Fit
     requires side { Side left.now }
     requires side_2 { Side right.now }
@@ -155,15 +168,11 @@ pub fn rule_fits(left: &[u16], right: &[u16], words: &[u16], a: usize, b: usize)
     let nothing = Span { start: 0, end: 0 };
     let spans = [nothing; VARIABLE_LIMIT];
     let l = match_side(left, 0, 1, words, a, Bindings { spans: spans });
-    let left_end = l.end;
-    if let SideEnd::Misses(item) = left_end {
-        return Fit::Off(RuleSide::Left, item);
+    let fit = l.fit;
+    if let Fit::Off = fit {
+        return Fit::Off;
     }
     let bound = l.bound;
     let r = match_side(right, 0, 1, words, b, bound);
-    let right_end = r.end;
-    match right_end {
-        SideEnd::AllBound => Fit::Fits,
-        SideEnd::Misses(item) => Fit::Off(RuleSide::Right, item),
-    }
+    r.fit
 }

@@ -11,8 +11,6 @@ use Rattle.model.specs.declared.Justification.TheVariants.{Rule as by_rule, Cong
 use Rattle.model.specs.declared.Measured.TheVariants.{Distance, Unmeasured}
 use Rattle.model.specs.declared.Printed.TheVariants.{Bytes, NoText}
 use Rattle.model.specs.declared.Verdict.TheVariants.{Accepted, Rejected}
-use Rattle.model.specs.declared.RuleSide.TheVariants.{Left, Right}
-use Rattle.model.specs.declared.Wrong.TheVariants.{Nowhere, AtNode, AtMark}
 use Rattle.model.specs.Judged.{Judged, judgement_of, number_of}
 use Rattle.model.specs.Term.{count}
 use Rattle.model.specs.Pattern.{variable, operator, no_patterns, app}
@@ -131,7 +129,7 @@ printed_by (go out s) = out
 printed_by (stop n) = []
 
 abbrev holding : Tables → List ℕ → State
-holding t ws = record { kind = words_kind; tables = t; open-words = ws; detail = false }
+holding t ws = record { kind = words_kind; tables = t; open-words = ws }
 
 filled : take 11 (printed_by (queried (holding (topped 12) []) 1 (some (record { left = 26; right = 26 })))) ≡ bytes "distance 0\n"
 unfolding topped answer answer_text bytes
@@ -210,15 +208,15 @@ leaves : ℕ → List ℕ
 leaves zero = []
 leaves (suc n) = 1 ∷ 0 ∷ 0 ∷ 0 ∷ leaves n
 
-terms-enough : verdict [] (leaves 16384) ≡ Rejected 15 1 Nowhere
+terms-enough : verdict [] (leaves 16384) ≡ Rejected 15 1
 unfolding leaves verdict
 terms-enough = refl
 
-terms-too-many : verdict [] (leaves 16385) ≡ Rejected 19 0 Nowhere
+terms-too-many : verdict [] (leaves 16385) ≡ Rejected 19 0
 unfolding leaves verdict
 terms-too-many = refl
 
-terms-cut : verdict [] (leaves 16384 ++ (3 ∷ 1 ∷ 0 ∷ 0 ∷ [])) ≡ Rejected 13 0 Nowhere
+terms-cut : verdict [] (leaves 16384 ++ (3 ∷ 1 ∷ 0 ∷ 0 ∷ [])) ≡ Rejected 13 0
 unfolding leaves verdict
 terms-cut = refl
 
@@ -282,20 +280,11 @@ distance-report = refl
 unmeasured-report : measure_report (Unmeasured 9) ≡ record { number = 9; distance = 0 }
 unmeasured-report = refl
 
-accepted-report : report_of (Accepted 2) ≡ record { number = 0; value = 2; node = 0; side = 0; item = 0 }
+accepted-report : report_of (Accepted 2) ≡ record { number = 0; value = 2 }
 accepted-report = refl
 
-rejected-report : report_of (Rejected 15 1 Nowhere) ≡ record { number = 15; value = 1; node = 0; side = 0; item = 0 }
+rejected-report : report_of (Rejected 17 1) ≡ record { number = 17; value = 1 }
 rejected-report = refl
-
-node-report : report_of (Rejected 17 1 (AtNode 3)) ≡ record { number = 17; value = 1; node = 3; side = 0; item = 0 }
-node-report = refl
-
-left-report : report_of (Rejected 17 1 (AtMark 3 Left 0)) ≡ record { number = 17; value = 1; node = 3; side = 1; item = 0 }
-left-report = refl
-
-right-report : report_of (Rejected 17 1 (AtMark 0 Right 2)) ≡ record { number = 17; value = 1; node = 0; side = 2; item = 2 }
-right-report = refl
 
 text-report : text_report (Bytes 2) ≡ record { number = 0; written = 2 }
 text-report = refl

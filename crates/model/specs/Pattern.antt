@@ -2,11 +2,7 @@
 use Rattle.std.specs.Prelude.{ℕ, zero, suc, ◌≤◌, ◌<◌, List, [], ◌∷◌, ◌++◌, Bool, true, false, ◌&&◌, ◌||◌, ◌≡◌, leb, ltb, eqb}
 use Rattle.std.proofs.Math.Option.{Option, none, some}
 use Rattle.model.specs.Limits.{child_limit, variable_limit}
-use Rattle.model.specs.Term.{Terms, no_terms, tree, unmarked, Term, put, one, count, join, strip, stripped, same_op, same}
-use Rattle.model.specs.declared.RuleSide.{RuleSide}
-use Rattle.model.specs.declared.RuleSide.TheVariants.{Left, Right}
-use Rattle.model.specs.declared.Fit.{Fit}
-use Rattle.model.specs.declared.Fit.TheVariants.{Fits, Off}
+use Rattle.model.specs.Term.{Terms, no_terms, tree, unmarked, Term, put, one, strip, same_op, same}
 
 -- "A pattern is read item by item, children inside parents": an item is a variable, or an operator with its child count
 pub data Item : Type 0 where
@@ -108,9 +104,8 @@ pub record Instance (l r : Patterns) (s t : Terms) : Type 0 where
   pub left : strip s ≡ inst σ l
   pub right : strip t ≡ inst σ r
 
--- Matching finds the substitution: the items are taken in order, each with the first of the terms that are left. Each variable is bound to
--- the first subterm that it meets, and each later one must be the same, marks aside; an operator and its child count must agree, and its
--- children are the next terms then.
+-- Matching finds the substitution: each variable is bound to the first subterm that it meets, and each later one must be
+-- the same, marks aside.
 abbrev pub Bound : Type 0
 Bound = ℕ → Option Term
 
@@ -128,70 +123,24 @@ abbrev pub meet : Option Term → Bound → ℕ → Term → Option Bound
 meet none b x t = some (bind b x t)
 meet (some u) b x t = keep_if (same (strip (one u)) (strip (one t))) b
 
--- what a match comes to: what is bound, or the number of "the first item that doesn't fit"
-pub data Matched : Type 0 where
-  binds : Bound → Matched
-  misses : ℕ → Matched
+abbrev pub and_then : Option Bound → (Bound → Option Bound) → Option Bound
+and_then none g = none
+and_then (some b) g = g b
 
-abbrev pub go_on : Option Bound → ℕ → (Bound → Matched) → Matched
-go_on none i g = misses i
-go_on (some b) i g = g b
+unfoldable pub match : Patterns → Terms → Bound → Option Bound
+unfolding same strip
+match no_patterns no_terms b = some b
+match no_patterns (tree o m k f) b = none
+match (var x s) no_terms b = none
+match (var x s) (tree o m k f) b = and_then (meet (b x) b x (record { op = o; mark = m; kids = k })) (match s f)
+match (app o k s) no_terms b = none
+match (app o k s) (tree o' m k' f) b = and_then (keep_if (same_op o o') b) (λ c. and_then (match k k' c) (match s f))
 
--- Items from the number i on, with the terms that are left. (A side is one pattern and meets one term, so that both end together: that a term
--- is left without an item, or an item without a term, is for rows that are no side.)
-unfoldable pub match : List Item → Terms → ℕ → Bound → Matched
-unfolding same strip join count
-match [] no_terms i b = binds b
-match [] (tree o m k f) i b = misses i
-match (variable x ∷ is) no_terms i b = misses i
-match (variable x ∷ is) (tree o m k f) i b = go_on (meet (b x) b x (record { op = o; mark = m; kids = k })) i (match is f (suc i))
-match (operator o c ∷ is) no_terms i b = misses i
-match (operator o c ∷ is) (tree o' m k f) i b = go_on (keep_if (same_op o' o && eqb (count k) c) b) i (match is (join k f) (suc i))
+abbrev pub found : Option Bound → Bool
+found none = false
+found (some b) = true
 
--- The left side is always matched first, so that a variable that stands only there is bound; the right side over what that bound.
-abbrev pub off_in : RuleSide → Matched → Fit
-off_in s (binds b) = Fits
-off_in s (misses i) = Off s i
-
-abbrev pub left_first : Matched → (Bound → Matched) → Fit
-left_first (misses i) g = Off Left i
-left_first (binds b) g = off_in Right (g b)
-
-unfoldable pub fit : Patterns → Patterns → Terms → Terms → Fit
-unfolding match items
-fit l r s t = left_first (match (items l) s 0 unbound) (match (items r) t 0)
-
--- "operator and count agree"
-abbrev pub SameHead : ℕ → ℕ → ℕ → ℕ → Type 0
-SameHead o c o' c' = (o ≡ o') × (c ≡ c')
-
--- The same, declaratively. A substitution fits the first n items to the terms that they meet, taken in order. (Behind the last item nothing
--- may be left.)
-unfoldable pub FitsFirst : Substitution → ℕ → List Item → Terms → Type 0
-unfolding strip join count
-FitsFirst σ zero is f = Unit {0}
-FitsFirst σ (suc n) [] no_terms = Unit {0}
-FitsFirst σ (suc n) [] (tree o m k f) = ⊥
-FitsFirst σ (suc n) (variable x ∷ is) no_terms = ⊥
-FitsFirst σ (suc n) (variable x ∷ is) (tree o m k f) = (stripped (record { op = o; mark = m; kids = k }) ≡ σ x) × FitsFirst σ n is f
-FitsFirst σ (suc n) (operator o c ∷ is) no_terms = ⊥
-FitsFirst σ (suc n) (operator o c ∷ is) (tree o' m k f) = SameHead o' (count k) o c × FitsFirst σ n is (join k f)
-
--- The item i of the left side is the first that doesn't fit: one substitution fits all before it, and none fits it too.
-pub record LeftOff (l : Patterns) (s : Terms) (i : ℕ) : Type 0 where
-  pub σ : Substitution
-  pub before : FitsFirst σ i (items l) s
-  pub off : (τ : Substitution) → FitsFirst τ (suc i) (items l) s → ⊥
-
--- And of the right side: the left side and all before it are fitted by one substitution, and with it by none.
-pub record RightOff (l r : Patterns) (s t : Terms) (i : ℕ) : Type 0 where
-  pub σ : Substitution
-  pub left : strip s ≡ inst σ l
-  pub before : FitsFirst σ i (items r) t
-  pub off : (τ : Substitution) → strip s ≡ inst τ l → FitsFirst τ (suc i) (items r) t → ⊥
-
--- what the answer of a match says
-abbrev pub FirstOff : Patterns → Patterns → Terms → Terms → Fit → Type 0
-FirstOff l r s t Fits = Instance l r s t
-FirstOff l r s t (Off Left i) = LeftOff l s i
-FirstOff l r s t (Off Right i) = RightOff l r s t i
+-- The left side is always matched first, so that a variable that stands only there is bound.
+unfoldable pub fits : Patterns → Patterns → Terms → Terms → Bool
+unfolding match
+fits l r s t = found (and_then (match l s unbound) (match r t))

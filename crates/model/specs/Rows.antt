@@ -1,10 +1,9 @@
 -- Document 01's P rows, computed: one list of inputs with the outputs they must give, and one claim.
 -- Behind P1 to P12 stand rows for the errors that look right (E1 to E5), the end of the input (E6, E7), a run that goes on (E8),
--- directions and congruences (E9 to E11), lines and frames (F1 to F6), tables (T1 to T4), the checker's other refusals (C1 to C10) and
--- where a step went wrong (W1 to W4; told in detail D1 to D6, a list and a claim of their own).
+-- directions and congruences (E9 to E11), lines and frames (F1 to F6), tables (T1 to T4) and the checker's other refusals (C1 to C10).
 -- Claims.antt has what no line of input shows: limits, areas, rooms and reports.
 use Prim.Native.String.{String, ◌++◌}
-use Rattle.std.specs.Prelude.{List, [], ◌∷◌, map, ◌≡◌, refl, true, false}
+use Rattle.std.specs.Prelude.{List, [], ◌∷◌, map, ◌≡◌, refl}
 use Rattle.model.specs.Text.{bytes}
 use Rattle.model.specs.Run.{output}
 
@@ -43,10 +42,6 @@ r9 = "02000901000502" ++ "0000" ++ "0000" ++ "0000\n"
 abbrev r10 : String
 r10 = "02000a01000502" ++ "0000" ++ "0001" ++ "0000\n"
 
--- r11 makes (o3 o1) to (o3 o2)
-abbrev r11 : String
-r11 = "02000b" ++ "01000301" ++ "01000100" ++ "01000301" ++ "01000200\n"
-
 pub record Row : Type 0 where
   pub input : String
   pub expected : String
@@ -67,7 +62,7 @@ rows =
     -- P5 query 0, 4: 8
     ∷ record { input = table_lines ++ "0400000004\n"; expected = "refused 8 line 8\n" }
     -- P6 root o4 in the second term: 17
-    ∷ record { input = table_lines ++ first ++ "05000401000000000200010007\n" ++ "06\n"; expected = "rejected 17 term 1 node 0\n" }
+    ∷ record { input = table_lines ++ first ++ "05000401000000000200010007\n" ++ "06\n"; expected = "rejected 17 term 1\n" }
     -- P7 the mark names r8: 16
     ∷ record { input = table_lines ++ first ++ "05000301000000000200010008\n" ++ "06\n"; expected = "rejected 16 term 1\n" }
     -- P8 only one, unmarked, term
@@ -84,7 +79,7 @@ rows =
     -- P12 pattern (o5 ?0 ?0) on (o5 o1 o2): 17
     ∷ record {
       input = r9 ++ "05000502000000" ++ "000100000000" ++ "000200000000\n" ++ "05000100010009\n" ++ "06\n";
-      expected = "rejected 17 term 1 node 0\n";
+      expected = "rejected 17 term 1\n";
     }
     -- E1 a binding that carries an earlier step's mark is compared without it
     ∷ record {
@@ -96,7 +91,7 @@ rows =
     -- E2 children are compared to the end of the longer list
     ∷ record {
       input = r7 ++ "05000302000000" ++ "000100000000" ++ "000100000000\n" ++ "05000301000000" ++ "000200010007\n" ++ "06\n";
-      expected = "rejected 17 term 1 node 0\n";
+      expected = "rejected 17 term 1\n";
     }
     -- E3 and so are the children of a congruence
     ∷ record {
@@ -222,98 +217,8 @@ rows =
     ∷ record { input = r7 ++ pair ++ "05000502000000" ++ "000200010007" ++ "000100010008\n" ++ "06\n"; expected = "rejected 15 term 1\n" }
     -- C10 16 before 17: nothing of the step is right
     ∷ record { input = r7 ++ first ++ "05000401000000" ++ "000100010008\n" ++ "06\n"; expected = "rejected 16 term 1\n" }
-    -- W1 a node before the mark disagrees, in operator and in count; the first one counts
-    ∷ record {
-      input = r7 ++ pair ++ "05000502000000" ++ "000200000000" ++ "000200010007\n" ++ "06\n";
-      expected = "rejected 17 term 1 node 1\n";
-    }
-    ∷ record {
-      input =
-          r7 ++ pair ++ "05000502000000" ++ "000101000000" ++ "000200000000" ++ "000200010007\n" ++ "06\n";
-      expected = "rejected 17 term 1 node 1\n";
-    }
-    ∷ record {
-      input =
-          r7 ++ "05000602000000" ++ "000301000000" ++ "000100000000" ++ "000100000000\n"
-          ++ "05000602000000" ++ "000301000000" ++ "000200000000" ++ "000300010007\n" ++ "06\n";
-      expected = "rejected 17 term 1 node 2\n";
-    }
-    -- W2 the mark doesn't match, and a node behind it disagrees too: the mark's node
-    ∷ record {
-      input = r7 ++ pair ++ "05000502000000" ++ "000300010007" ++ "000200000000\n" ++ "06\n";
-      expected = "rejected 17 term 1 node 1\n";
-    }
-    -- W3 behind a marked subterm that shrank, and behind one that grew, the later term's nodes are counted
-    ∷ record {
-      input =
-          r10 ++ "05000602000000" ++ "000502000000" ++ "000100000000" ++ "000200000000" ++ "000300000000\n"
-          ++ "05000602000000" ++ "00010001000a" ++ "000400000000\n" ++ "06\n";
-      expected = "rejected 17 term 1 node 2\n";
-    }
-    ∷ record {
-      input =
-          r10 ++ "05000602000000" ++ "000100000000" ++ "000300000000\n"
-          ++ "05000602000000" ++ "00050202000a" ++ "000100000000" ++ "000200000000" ++ "000400000000\n" ++ "06\n";
-      expected = "rejected 17 term 1 node 4\n";
-    }
-    -- W4 a node inside a marked subterm is never told: the mark's is
-    ∷ record { input = r11 ++ first ++ "0500030101000b" ++ "000400000000\n" ++ "06\n"; expected = "rejected 17 term 1 node 0\n" }
     ∷ []
 
--- Told in detail, by the side and the item behind the node, where a mark doesn't match.
-abbrev pub detail_rows : List Row
-detail_rows =
-    -- D1 the paper's run is as it was, and so are P6, whose node is unmarked, and P7
-    record {
-      input = table_lines ++ "0400020003\n" ++ first ++ second ++ "06\n";
-      expected = "distance 1\n" ++ "(o3 o1)\n" ++ "(o3 (Rewrite=> r7 o2))\n" ++ "accepted 2\n";
-    }
-    ∷ record { input = table_lines ++ first ++ "05000401000000000200010007\n" ++ "06\n"; expected = "rejected 17 term 1 node 0\n" }
-    ∷ record { input = table_lines ++ first ++ "05000301000000000200010008\n" ++ "06\n"; expected = "rejected 16 term 1\n" }
-    -- D2 P12: "a variable's later item where two bindings differ"
-    ∷ record {
-      input = r9 ++ "05000502000000" ++ "000100000000" ++ "000200000000\n" ++ "05000100010009\n" ++ "06\n";
-      expected = "rejected 17 term 1 node 0 side left item 2\n";
-    }
-    -- D3 the right side, whose variable the left side bound: forward it meets the later term
-    ∷ record {
-      input = r9 ++ pair ++ "05000200010009\n" ++ "06\n";
-      expected = "rejected 17 term 1 node 0 side right item 0\n";
-    }
-    -- D4 backward: the left side meets the later term, the right side the earlier one
-    ∷ record {
-      input = r9 ++ "05000100000000\n" ++ "05000502020009" ++ "000100000000" ++ "000200000000\n" ++ "06\n";
-      expected = "rejected 17 term 1 node 0 side left item 2\n";
-    }
-    ∷ record {
-      input = r9 ++ "05000100000000\n" ++ "05000502020009" ++ "000200000000" ++ "000200000000\n" ++ "06\n";
-      expected = "rejected 17 term 1 node 0 side right item 0\n";
-    }
-    -- D5 both sides fail: "left first"; an operator's count; items inside their parents
-    ∷ record { input = r7 ++ "05000300000000\n" ++ "05000400010007\n" ++ "06\n"; expected = "rejected 17 term 1 node 0 side left item 0\n" }
-    ∷ record {
-      input = r9 ++ first ++ "05000100010009\n" ++ "06\n";
-      expected = "rejected 17 term 1 node 0 side left item 0\n";
-    }
-    ∷ record {
-      input = r9 ++ "05000501000000" ++ "000100000000\n" ++ "05000100010009\n" ++ "06\n";
-      expected = "rejected 17 term 1 node 0 side left item 0\n";
-    }
-    ∷ record {
-      input = r11 ++ first ++ "0500030101000b" ++ "000400000000\n" ++ "06\n";
-      expected = "rejected 17 term 1 node 0 side right item 1\n";
-    }
-    -- D6 a mark below the root
-    ∷ record {
-      input = r7 ++ pair ++ "05000502000000" ++ "000100000000" ++ "000300010007\n" ++ "06\n";
-      expected = "rejected 17 term 1 node 2 side right item 0\n";
-    }
-    ∷ []
-
-claim : map (λ r. output false (bytes r.input)) rows ≡ map (λ r. bytes r.expected) rows
+claim : map (λ r. output (bytes r.input)) rows ≡ map (λ r. bytes r.expected) rows
 unfolding output bytes
 claim = refl
-
-told : map (λ r. output true (bytes r.input)) detail_rows ≡ map (λ r. bytes r.expected) detail_rows
-unfolding output bytes
-told = refl

@@ -4,10 +4,6 @@ use Rattle.std.proofs.Math.Option.{Option, none, some}
 use Rattle.model.specs.declared.Answer.{Answer}
 use Rattle.model.specs.declared.Answer.TheVariants.{Written, Refused}
 use Rattle.model.specs.declared.Connection.{Connection}
-use Rattle.model.specs.declared.RuleSide.{RuleSide}
-use Rattle.model.specs.declared.RuleSide.TheVariants.{Left, Right}
-use Rattle.model.specs.declared.Wrong.{Wrong}
-use Rattle.model.specs.declared.Wrong.TheVariants.{Nowhere, AtNode, AtMark}
 use Rattle.model.specs.declared.Verdict.{Verdict}
 use Rattle.model.specs.declared.Verdict.TheVariants.{Accepted, Rejected}
 use Rattle.model.specs.Limits.{program_area}
@@ -21,16 +17,14 @@ use Rattle.model.specs.Query.{Tables, no_tables, proof_of, answer}
 use Rattle.model.specs.Text.{bytes, digits, lines}
 use Rattle.model.specs.Frame.{no_kind, node_kind, rule_kind, connection_kind, query_kind, words_kind, end_kind, line_bytes, Frame, node, rule, connection, query, offered, close, unknown, NodePair, frame_of}
 
--- What the run keeps from line to line: the kind of the last frame, the tables, and the words of the proof that is open; and from its start on
--- whether a rejection is told in detail.
+-- What the run keeps from line to line: the kind of the last frame, the tables, and the words of the proof that is open.
 pub record State : Type 0 where
   pub kind : ℕ
   pub tables : Tables
   pub open-words : List ℕ
-  pub detail : Bool
 
-abbrev pub start : Bool → State
-start d = record { kind = no_kind; tables = no_tables; open-words = []; detail = d }
+abbrev pub start : State
+start = record { kind = no_kind; tables = no_tables; open-words = [] }
 
 -- What a line gives: what is printed, and the state for the next; or a refusal that ends the run.
 pub data Turn : Type 0 where
@@ -49,53 +43,38 @@ answer_text t p l (Written d w) =
     bytes "distance " ++ (digits d ++ (bytes "\n" ++ lines (proof_of t p.left p.right)))
 answer_text t p l (Refused n) = refusal_text n l
 
--- "prints `rejected 17 term K node P`" (A11); told in detail, the side and the item behind it where a mark doesn't match
-abbrev pub side_text : RuleSide → List ℕ
-side_text Left = bytes " side left"
-side_text Right = bytes " side right"
-
-abbrev pub item_text : Bool → RuleSide → ℕ → List ℕ
-item_text false s i = []
-item_text true s i = side_text s ++ (bytes " item " ++ digits i)
-
-unfoldable pub wrong_text : Bool → Wrong → List ℕ
-unfolding bytes digits
-wrong_text d Nowhere = []
-wrong_text d (AtNode p) = bytes " node " ++ digits p
-wrong_text d (AtMark p s i) = bytes " node " ++ (digits p ++ item_text d s i)
-
 -- "A verdict prints `accepted T` (terms) or `rejected N term K`."
-unfoldable pub verdict_text : Bool → Verdict → List ℕ
-unfolding bytes digits wrong_text
-verdict_text d (Accepted n) = bytes "accepted " ++ (digits n ++ bytes "\n")
-verdict_text d (Rejected n k w) = bytes "rejected " ++ (digits n ++ (bytes " term " ++ (digits k ++ (wrong_text d w ++ bytes "\n"))))
+unfoldable pub verdict_text : Verdict → List ℕ
+unfolding bytes digits
+verdict_text (Accepted n) = bytes "accepted " ++ (digits n ++ bytes "\n")
+verdict_text (Rejected n k) = bytes "rejected " ++ (digits n ++ (bytes " term " ++ (digits k ++ bytes "\n")))
 
 -- an entry of a table: nothing is printed
 abbrev pub node_turn : State → Judged (List Node) → Turn
 node_turn s (bad n) = stop n
 node_turn s (good ns) =
-    go [] (record { kind = node_kind; tables = record { nodes = ns; rules = s.tables.rules; conns = s.tables.conns }; open-words = []; detail = s.detail })
+    go [] (record { kind = node_kind; tables = record { nodes = ns; rules = s.tables.rules; conns = s.tables.conns }; open-words = [] })
 
 abbrev pub rule_turn : State → Judged (List Rule) → Turn
 rule_turn s (bad n) = stop n
 rule_turn s (good rs) =
-    go [] (record { kind = rule_kind; tables = record { nodes = s.tables.nodes; rules = rs; conns = s.tables.conns }; open-words = []; detail = s.detail })
+    go [] (record { kind = rule_kind; tables = record { nodes = s.tables.nodes; rules = rs; conns = s.tables.conns }; open-words = [] })
 
 abbrev pub connection_turn : State → Judged (List Connection) → Turn
 connection_turn s (bad n) = stop n
 connection_turn s (good cs) =
-    go [] (record { kind = connection_kind; tables = record { nodes = s.tables.nodes; rules = s.tables.rules; conns = cs }; open-words = []; detail = s.detail })
+    go [] (record { kind = connection_kind; tables = record { nodes = s.tables.nodes; rules = s.tables.rules; conns = cs }; open-words = [] })
 
 abbrev pub queried : State → ℕ → Option NodePair → Turn
 queried s l none = stop 2
 queried s l (some p) =
     go (answer_text s.tables p l (answer s.tables program_area p.left p.right))
-    (record { kind = query_kind; tables = s.tables; open-words = []; detail = s.detail })
+    (record { kind = query_kind; tables = s.tables; open-words = [] })
 
 -- "an offered proof that outgrows the area (11)"
 abbrev pub opened_if : Bool → State → List ℕ → Turn
 opened_if true s ws = stop 11
-opened_if false s ws = go [] (record { kind = words_kind; tables = s.tables; open-words = ws; detail = s.detail })
+opened_if false s ws = go [] (record { kind = words_kind; tables = s.tables; open-words = ws })
 
 abbrev pub opened : State → Option (List ℕ) → Turn
 opened s none = stop 2
@@ -103,7 +82,7 @@ opened s (some ws) = opened_if (ltb program_area (length s.open-words + length w
 
 abbrev pub closed : State → Bool → Turn
 closed s false = stop 2
-closed s true = go (verdict_text s.detail (verdict s.tables.rules s.open-words)) (record { kind = end_kind; tables = s.tables; open-words = []; detail = s.detail })
+closed s true = go (verdict_text (verdict s.tables.rules s.open-words)) (record { kind = end_kind; tables = s.tables; open-words = [] })
 
 unfoldable pub frame_turn : State → ℕ → Frame → Turn
 unfolding add_node add_rule add_connection answer answer_text verdict_text verdict
@@ -163,7 +142,7 @@ run s l [] rest = at_end s l rest
 run s l (x ∷ xs) rest =
     elim (line_turn s l (line_bytes x)) [ go out s' ↦ out ++ run s' (suc l) xs rest | stop n ↦ refusal_text n l ]
 
--- "lines from 1"; told in detail or not
-unfoldable pub output : Bool → List ℕ → List ℕ
+-- "lines from 1"
+unfoldable pub output : List ℕ → List ℕ
 unfolding run split
-output d input = let p = split input in run (start d) 1 p.whole p.rest
+output input = let p = split input in run start 1 p.whole p.rest

@@ -1,14 +1,10 @@
--- The step that the checker wants: rewriting by substitution (Baader and Nipkow) where the later term is marked; and where it goes wrong.
-use Rattle.std.specs.Prelude.{ℕ, suc, ◌+◌, List, Bool, true, false, not, ◌&&◌, ◌||◌, ◌≡◌, eqb}
+-- The step that the checker wants: rewriting by substitution (Baader and Nipkow) where the later term is marked.
+use Rattle.std.specs.Prelude.{ℕ, List, Bool, true, false, not, ◌&&◌, ◌||◌, ◌≡◌}
 use Rattle.std.proofs.Math.Option.{Option, none, some}
 use Rattle.model.specs.declared.Direction.{Direction}
 use Rattle.model.specs.declared.Direction.TheVariants.{Forward, Backward}
-use Rattle.model.specs.declared.Fit.{Fit}
-use Rattle.model.specs.declared.Fit.TheVariants.{Fits, Off}
-use Rattle.model.specs.declared.Wrong.{Wrong}
-use Rattle.model.specs.declared.Wrong.TheVariants.{Nowhere, AtNode, AtMark}
-use Rattle.model.specs.Term.{Mark, unmarked, marked, Terms, no_terms, tree, count, size, same_op}
-use Rattle.model.specs.Pattern.{Instance, fit}
+use Rattle.model.specs.Term.{Mark, unmarked, marked, Terms, no_terms, tree, same_op}
+use Rattle.model.specs.Pattern.{Instance, fits}
 use Rattle.model.specs.Rule.{Rule, listed, is_listed}
 
 -- Of an earlier and a later term, the one that a rule's left side must be: the earlier (forward), or the later (backward). And the
@@ -41,41 +37,24 @@ Step rs (tree o m k s) (tree o' unmarked k' s') = (o ≡ o') × Step rs k k' × 
 Step rs (tree o m k s) (tree o' (marked d n) k' s') =
     Allowed rs (marked d n) (tree o m k no_terms) (tree o' (marked d n) k' no_terms) × Step rs s s'
 
--- "the first node of the later term, in preorder from 0, that disagrees or whose mark doesn't match", computed: the nodes of the later row are
--- numbered from n on, those of a marked subterm too. At a mark the match's side and item are passed on.
-abbrev pub or_else : Wrong → Wrong → Wrong
-or_else Nowhere w = w
-or_else (AtNode p) w = AtNode p
-or_else (AtMark p s i) w = AtMark p s i
+-- the same, computed
+abbrev pub fits_rule : Option Rule → Terms → Terms → Bool
+fits_rule none s t = false
+fits_rule (some r) s t = fits r.left r.right s t
 
-abbrev pub wrong_if : Bool → ℕ → Wrong → Wrong
-wrong_if true n w = AtNode n
-wrong_if false n w = w
+unfoldable pub allowed : List Rule → Mark → Terms → Terms → Bool
+unfolding listed fits
+allowed rs unmarked s t = false
+allowed rs (marked d n) s t = fits_rule (listed rs n) (left_of d s t) (right_of d s t)
 
-abbrev pub at_mark : ℕ → Fit → Wrong
-at_mark n Fits = Nowhere
-at_mark n (Off s i) = AtMark n s i
-
--- (a mark that names no listed rule is 16, which is looked for before)
-abbrev pub by_rule : Option Rule → ℕ → Terms → Terms → Wrong
-by_rule none n s t = AtNode n
-by_rule (some r) n s t = at_mark n (fit r.left r.right s t)
-
-unfoldable pub mark_wrong : List Rule → ℕ → Mark → Terms → Terms → Wrong
-unfolding listed fit
-mark_wrong rs n unmarked s t = AtNode n
-mark_wrong rs n (marked d j) s t = by_rule (listed rs j) n (left_of d s t) (right_of d s t)
-
--- (Rows of children are met only where their counts agree, so that they end together.)
-unfoldable pub wrong : List Rule → ℕ → Terms → Terms → Wrong
-unfolding mark_wrong count size
-wrong rs n no_terms no_terms = Nowhere
-wrong rs n no_terms (tree o m k s) = AtNode n
-wrong rs n (tree o m k s) no_terms = AtNode n
-wrong rs n (tree o m k s) (tree o' unmarked k' s') =
-    wrong_if (not (same_op o o' && eqb (count k) (count k'))) n (or_else (wrong rs (suc n) k k') (wrong rs (suc n + size k') s s'))
-wrong rs n (tree o m k s) (tree o' (marked d j) k' s') =
-    or_else (mark_wrong rs n (marked d j) (tree o m k no_terms) (tree o' (marked d j) k' no_terms)) (wrong rs (suc n + size k') s s')
+unfoldable pub step : List Rule → Terms → Terms → Bool
+unfolding allowed
+step rs no_terms no_terms = true
+step rs no_terms (tree o m k s) = false
+step rs (tree o m k s) no_terms = false
+step rs (tree o m k s) (tree o' unmarked k' s') = same_op o o' && (step rs k k' && step rs s s')
+step rs (tree o m k s) (tree o' (marked d n) k' s') =
+    allowed rs (marked d n) (tree o m k no_terms) (tree o' (marked d n) k' no_terms) && step rs s s'
 
 -- whether a row has a mark of which p holds, and whether it has any
 unfoldable pub some_mark : (Mark → Bool) → Terms → Bool

@@ -13,7 +13,6 @@ use Rattle.model.specs.declared.Measured.{Measured}
 use Rattle.model.specs.declared.Measured.TheVariants.{Unmeasured}
 use Rattle.model.specs.declared.Verdict.{Verdict}
 use Rattle.model.specs.declared.Verdict.TheVariants.{Rejected}
-use Rattle.model.specs.declared.Wrong.TheVariants.{Nowhere}
 use Rattle.model.specs.Limits.{child_limit, item_limit}
 use Rattle.model.specs.Judged.{Judged, good, bad}
 use Rattle.model.specs.Pattern.{Item, variable, operator, Patterns}
@@ -206,5 +205,5 @@ area_of (bad n) area l r = replicate area 0
 area_of (good t) area l r = area_after t area l r
 
 abbrev pub verdict_by : Judged Tables → List ℕ → Verdict
-verdict_by (bad n) ws = Rejected n 0 Nowhere
+verdict_by (bad n) ws = Rejected n 0
 verdict_by (good t) ws = verdict t.rules ws

@@ -1,16 +1,12 @@
 -- What the strict checker says of words, over accepted rules: declaratively, and computed in document 01's order.
 use Rattle.std.specs.Prelude.{ℕ, suc, ◌≤◌, List, Bool, true, false, not, ◌≡◌, eqb, ltb, length}
 use Rattle.std.proofs.Math.Option.{Option, none, some}
-use Rattle.model.specs.declared.RuleSide.{RuleSide}
-use Rattle.model.specs.declared.RuleSide.TheVariants.{Left, Right}
-use Rattle.model.specs.declared.Wrong.{Wrong}
-use Rattle.model.specs.declared.Wrong.TheVariants.{Nowhere, AtNode, AtMark}
 use Rattle.model.specs.declared.Verdict.{Verdict}
 use Rattle.model.specs.declared.Verdict.TheVariants.{Accepted, Rejected}
 use Rattle.model.specs.Limits.{term_limit, word_limit}
 use Rattle.model.specs.Term.{Terms, no_terms, tree, count, marks, read, Reads}
 use Rattle.model.specs.Rule.{Rule}
-use Rattle.model.specs.Step.{Step, wrong, some_mark, is_mark, unlisted}
+use Rattle.model.specs.Step.{Step, step, some_mark, is_mark, unlisted}
 
 -- Demand 2 as A10 leaves it ("one or more" marked places became one): each later term arises from the one before by an instance of a listed
 -- rule at its one marked place and is the same elsewhere. `checker/proofs/Book.antt` `later-book`: that is one rewrite of the book's, at the
@@ -40,23 +36,17 @@ pub record Proves (rs : List Rule) (ws : List ℕ) (n : ℕ) : Type 0 where
 
 -- Computed: the number where its condition holds, at the place, else what comes behind it.
 abbrev pub reject_if : Bool → ℕ → ℕ → Verdict → Verdict
-reject_if true n k v = Rejected n k Nowhere
+reject_if true n k v = Rejected n k
 reject_if false n k v = v
-
--- 17 comes with where the step went wrong
-abbrev pub reject_at : Wrong → ℕ → Verdict → Verdict
-reject_at Nowhere k v = v
-reject_at (AtNode p) k v = Rejected 17 k (AtNode p)
-reject_at (AtMark p s i) k v = Rejected 17 k (AtMark p s i)
 
 -- "then each later term in order by 15, 18, 16, 17", of which A10 leaves 15, 16, 17: the term at place k, behind the term s, and what comes
 -- behind it. 15 is a term without exactly one mark, and 18 nobody's number.
 unfoldable pub later_verdict : List Rule → ℕ → Terms → Terms → Verdict → Verdict
-unfolding wrong marks unlisted
+unfolding step marks unlisted
 later_verdict rs k s t v =
     reject_if (not (eqb (marks t) 1)) 15 k
     (reject_if (unlisted rs t) 16 k
-    (reject_at (wrong rs 0 s t) k v))
+    (reject_if (not (step rs s t)) 17 k v))
 
 unfoldable pub chain_verdict : List Rule → ℕ → Terms → Terms → Verdict
 unfolding later_verdict
@@ -67,8 +57,8 @@ chain_verdict rs k s (tree o m ks f) =
 -- "19 for terms, 14"; no terms at all are words of no proof, 12
 unfoldable pub terms_verdict : List Rule → Option Terms → Verdict
 unfolding chain_verdict some_mark count
-terms_verdict rs none = Rejected 13 0 Nowhere
-terms_verdict rs (some no_terms) = Rejected 12 0 Nowhere
+terms_verdict rs none = Rejected 13 0
+terms_verdict rs (some no_terms) = Rejected 12 0
 terms_verdict rs (some (tree o m k f)) =
     reject_if (ltb term_limit (suc (count f))) 19 0
     (reject_if (some_mark is_mark (tree o m k no_terms)) 14 0
@@ -79,34 +69,11 @@ unfoldable pub verdict : List Rule → List ℕ → Verdict
 unfolding terms_verdict read
 verdict rs ws = reject_if (ltb word_limit (length ws)) 19 0 (terms_verdict rs (read ws))
 
--- document 01's number and value for each case: "Success is number 0", with the count of terms; else the number and the place, and for 17 the
--- node, and at a mark the side (1 left, 2 right) and the item; all zero where they do not apply
+-- document 01's number and value for each case: "Success is number 0", with the count of terms; else the number and the place
 pub record Report : Type 0 where
   pub number : ℕ
   pub value : ℕ
-  pub node : ℕ
-  pub side : ℕ
-  pub item : ℕ
-
-abbrev pub side_word : RuleSide → ℕ
-side_word Left = 1
-side_word Right = 2
-
-abbrev pub wrong_node : Wrong → ℕ
-wrong_node Nowhere = 0
-wrong_node (AtNode p) = p
-wrong_node (AtMark p s i) = p
-
-abbrev pub wrong_side : Wrong → ℕ
-wrong_side Nowhere = 0
-wrong_side (AtNode p) = 0
-wrong_side (AtMark p s i) = side_word s
-
-abbrev pub wrong_item : Wrong → ℕ
-wrong_item Nowhere = 0
-wrong_item (AtNode p) = 0
-wrong_item (AtMark p s i) = i
 
 abbrev pub report_of : Verdict → Report
-report_of (Accepted n) = record { number = 0; value = n; node = 0; side = 0; item = 0 }
-report_of (Rejected n k w) = record { number = n; value = k; node = wrong_node w; side = wrong_side w; item = wrong_item w }
+report_of (Accepted n) = record { number = 0; value = n }
+report_of (Rejected n k) = record { number = n; value = k }

@@ -55,36 +55,11 @@ pub enum Judgement {
     Faulty(u16),
 }
 
-// Which of a rule's two patterns.
-#[derive(Drop)]
-pub enum RuleSide {
-    Left,
-    Right,
-}
-
-// What the match of a rule on two terms answers: it fits, or the side (left first) and the item of it, from 0, that is the first not to
-// fit.
-#[derive(Drop)]
-pub enum Fit {
-    Fits,
-    Off(RuleSide, usize),
-}
-
-// Where a step went wrong: nowhere; at a node of the later term, from 0 in preorder, that disagrees; or at one whose mark doesn't match,
-// and there by that side and item.
-#[derive(Drop)]
-pub enum Wrong {
-    Nowhere,
-    AtNode(usize),
-    AtMark(usize, RuleSide, usize),
-}
-
-// What the strict checker answers: the count of terms, or the number of a refusal, the term's place from 0, and where its step went wrong
-// if the number is 17.
+// What the strict checker answers: the count of terms, or the number of a refusal and the term's place from 0.
 #[derive(Drop)]
 pub enum Verdict {
     Accepted(usize),
-    Rejected(u16, usize, Wrong),
+    Rejected(u16, usize),
 }
 
 // What the distance of a pair answers: the distance, or the number of a refusal.

@@ -104,9 +104,9 @@ run-cut s l (x ∷ xs) rest = rw (cut_line x, run) (by (λ s'. run-cut s' (suc l
     by behind (stop n) = refl
 
 -- Whatever pieces the input comes in, the program prints for the lines that the reader finds what it is to print for the input.
-pub any-split : (d : Bool) (pieces : List (List ℕ)) →
-    run (start d) 1 (feed_all [] pieces).whole (feed_all [] pieces).rest ≡ output d (together pieces)
+pub any-split : (pieces : List (List ℕ)) →
+    run start 1 (feed_all [] pieces).whole (feed_all [] pieces).rest ≡ output (together pieces)
 unfolding output
-any-split d pieces =
+any-split pieces =
     let p = split (together pieces) in
-    ap (λ (q : InputLines). run (start d) 1 q.whole q.rest) (pieces-split pieces) ∙ run-cut (start d) 1 p.whole p.rest
+    ap (λ (q : InputLines). run start 1 q.whole q.rest) (pieces-split pieces) ∙ run-cut start 1 p.whole p.rest

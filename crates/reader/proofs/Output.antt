@@ -140,15 +140,15 @@ prints-run {p} {t} {line} {piece} {from = from} {more = more} (goes q next n u r
     on-goes p line piece from held long more s u room q next n _ _ few (λ s' h' x y z. prints-run r s' h' x y z)
     (gathered (drop from piece) from p.held).whole refl (a s h)
 
--- and so over any pieces, from the start, told in detail or not
-module _ (d : Bool) (t : Store) (line : List ℕ) (pieces : List (List ℕ)) {out : List ℕ} {to : ℕ} (long : length line ≡ kept_limit)
-    (few : length (together pieces) < last_line) (r : Prints (at_first d) t line [] 0 pieces out to) where
-  whole_run : both out to ≡ came (start d) 1 false (feed_all [] pieces)
+-- and so over any pieces, from the start
+module _ (t : Store) (line : List ℕ) (pieces : List (List ℕ)) {out : List ℕ} {to : ℕ} (long : length line ≡ kept_limit)
+    (few : length (together pieces) < last_line) (r : Prints at_first t line [] 0 pieces out to) where
+  whole_run : both out to ≡ came start 1 false (feed_all [] pieces)
   unfolding feed_all feed
-  whole_run = prints-run r (start d) (at-start d t) (omega arith) long (omega arith)
+  whole_run = prints-run r start (at-start t) (omega arith) long (omega arith)
 
-  pub prints-output : out ≡ output d (together pieces)
-  prints-output = ap (λ (x : Came). x.out) whole_run ∙ any-split d pieces
+  pub prints-output : out ≡ output (together pieces)
+  prints-output = ap (λ (x : Came). x.out) whole_run ∙ any-split pieces
 
-  pub prints-status : to ≡ outcome d (together pieces)
-  prints-status = ap (λ (x : Came). x.digit) whole_run ∙ any-status d pieces
+  pub prints-status : to ≡ outcome (together pieces)
+  prints-status = ap (λ (x : Came). x.digit) whole_run ∙ any-status pieces

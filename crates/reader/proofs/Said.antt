@@ -18,14 +18,14 @@ is_refused (Refused n) = true
 
 abbrev is_rejected : Verdict → Bool
 is_rejected (Accepted n) = false
-is_rejected (Rejected n k w) = true
+is_rejected (Rejected n k) = true
 
 pub answer-said : (t : Tables) (p : NodePair) (l : ℕ) (a : Answer) → begins_with_r (answer_text t p l a) ≡ is_refused a
 unfolding answer_text refusal_text bytes
 answer-said t p l (Written d w) = refl
 answer-said t p l (Refused n) = refl
 
-pub verdict-said : (d : Bool) (v : Verdict) → begins_with_r (verdict_text d v) ≡ is_rejected v
+pub verdict-said : (v : Verdict) → begins_with_r (verdict_text v) ≡ is_rejected v
 unfolding verdict_text bytes
-verdict-said d (Accepted n) = refl
-verdict-said d (Rejected n k w) = refl
+verdict-said (Accepted n) = refl
+verdict-said (Rejected n k) = refl

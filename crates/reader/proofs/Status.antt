@@ -66,10 +66,9 @@ status-cut s l bad (x ∷ xs) rest =
     by behind (stop n) = refl
 
 -- whatever pieces the input comes in
-pub any-status : (d : Bool) (pieces : List (List ℕ)) →
-    status (start d) 1 false (feed_all [] pieces).whole (feed_all [] pieces).rest ≡ outcome d (together pieces)
+pub any-status : (pieces : List (List ℕ)) →
+    status start 1 false (feed_all [] pieces).whole (feed_all [] pieces).rest ≡ outcome (together pieces)
 unfolding outcome
-any-status d pieces =
+any-status pieces =
     let p = split (together pieces) in
-    ap (λ (q : InputLines). status (start d) 1 false q.whole q.rest) (pieces-split pieces)
-    ∙ status-cut (start d) 1 false p.whole p.rest
+    ap (λ (q : InputLines). status start 1 false q.whole q.rest) (pieces-split pieces) ∙ status-cut start 1 false p.whole p.rest

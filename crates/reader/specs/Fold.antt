@@ -43,6 +43,6 @@ pub data Prints : Place → Store → List ℕ → List ℕ → ℕ → List (Li
       ReadsOn p t piece from (Goes q next n) (kept_line line p.held piece from) u room →
       Prints q u (kept_line line p.held piece from) piece next more out status → Prints p t line piece from more (take n room ++ out) status
 
--- before the first byte, in a run that tells rejections in detail or not
-abbrev pub at_first : Bool → Place
-at_first d = record { counts = no_counts d; line = 1; held = 0; refused = false }
+-- before the first byte
+abbrev pub at_first : Place
+at_first = record { counts = no_counts; line = 1; held = 0; refused = false }

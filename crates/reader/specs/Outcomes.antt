@@ -1,5 +1,5 @@
 -- What runs come to, computed: inputs with the status that they must give.
-use Rattle.std.specs.Prelude.{ℕ, false, List, [], ◌∷◌, map, ◌≡◌, refl}
+use Rattle.std.specs.Prelude.{ℕ, List, [], ◌∷◌, map, ◌≡◌, refl}
 use Prim.Native.String.{String, ◌++◌}
 use Rattle.model.specs.Text.{bytes}
 use Rattle.reader.specs.Status.{outcome}
@@ -34,6 +34,6 @@ runs =
     ∷ record { input = term; expected = 2 }
     ∷ []
 
-claim : map (λ r. outcome false (bytes r.input)) runs ≡ map (λ r. r.expected) runs
+claim : map (λ r. outcome (bytes r.input)) runs ≡ map (λ r. r.expected) runs
 unfolding outcome bytes
 claim = refl

@@ -13,6 +13,6 @@ status s l bad [] rest = came_to (at_end s l rest) bad
 status s l bad (x ∷ xs) rest =
     elim (line_turn s l (line_bytes x)) [ go out s' ↦ status s' (suc l) (bad || begins_with_r out) xs rest | stop n ↦ 2 ]
 
-unfoldable pub outcome : Bool → List ℕ → ℕ
+unfoldable pub outcome : List ℕ → ℕ
 unfolding status split
-outcome d input = let p = split input in status (start d) 1 false p.whole p.rest
+outcome input = let p = split input in status start 1 false p.whole p.rest

@@ -33,7 +33,7 @@ one_answer false true P a b = absurd (a b)
 same-term-only : (κs : Lfts 1) (a s s' : _) (r r' : Bool) → same-term.Pre κs a → same-term.Post κs a r s → same-term.Post κs a r' s' → r ≡ r'
 same-term-only κs a s s' r r' w p q = one_answer r r' _ (p _ _ _ _ w.0.is w.1.is) (q _ _ _ _ w.0.is w.1.is)
 
-same-nodes-only : (κs : Lfts 1) (a s s' : _) (r r' : ℕ) → same_nodes.Post κs a r s → same_nodes.Post κs a r' s' → r ≡ r'
+same-nodes-only : (κs : Lfts 1) (a s s' : _) (r r' : Bool) → same_nodes.Post κs a r s → same_nodes.Post κs a r' s' → r ≡ r'
 same-nodes-only κs a s s' r r' p q = p ∙ sym q
 
 whole-terms-only : (κs : Lfts 1) (a s s' : _) (r r' : WholeTerms) → whole-terms.Post κs a r s → whole-terms.Post κs a r' s' → r ≡ r'

@@ -33,17 +33,13 @@ ok_node n = ok_words n.count n.mark n.rule.0
 abbrev pub same_head : TreeNode → ℕ → ℕ → Bool
 same_head n o c = same_op n.op.0 o && eqb n.count c
 
--- the nodes at two places agree so; and how many of n from two places on do, before the first that does not
+-- the nodes at two places agree so; and so many from two places on
 abbrev pub same_at : List ℕ → ℕ → ℕ → Bool
 same_at ws i j = same_head (node_of ws i) (node_of ws j).op.0 (node_of ws j).count
 
-abbrev pub one_more : Bool → ℕ → ℕ
-one_more true n = suc n
-one_more false n = 0
-
-unfoldable pub same_nodes : List ℕ → ℕ → ℕ → ℕ → ℕ
-same_nodes ws i j zero = 0
-same_nodes ws i j (suc n) = one_more (same_at ws i j) (same_nodes ws (i + flat_words) (j + flat_words) n)
+unfoldable pub same_nodes : List ℕ → ℕ → ℕ → ℕ → Bool
+same_nodes ws i j zero = true
+same_nodes ws i j (suc n) = same_at ws i j && same_nodes ws (i + flat_words) (j + flat_words) n
 
 -- the words from `at` up to e are those of the one term t
 pub record TermAt (ws : List ℕ) (at e : ℕ) (t : Term) : Type 0 where

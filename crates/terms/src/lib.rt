@@ -127,8 +127,8 @@ pub fn same_term(words: &[u16], a: usize, b: usize) -> bool
     true
 }
 
-// How many nodes from `i` on agree with those from `j` on, their marks aside, before the first that does not: `count` where all of so many do.
-pub fn same_nodes(words: &[u16], i: usize, j: usize, count: usize) -> usize
+// Whether `count` nodes from `i` on agree with as many from `j` on, their marks aside.
+pub fn same_nodes(words: &[u16], i: usize, j: usize, count: usize) -> bool
     requires count_in_bounds { i + flat_words * count ≤ length words.now }
     requires count_in_bounds_2 { j + flat_words * count ≤ length words.now }
     ensures { result ≡ same_nodes words.now i j count }
@@ -140,13 +140,13 @@ pub fn same_nodes(words: &[u16], i: usize, j: usize, count: usize) -> usize
         let x = node_at(words, a);
         let y = node_at(words, b);
         if !same_head(x, y.op, y.count) {
-            return count - left;
+            return false;
         }
         a += FLAT_WORDS;
         b += FLAT_WORDS;
         left -= 1;
     }
-    count
+    true
 }
 
 // How many terms the words are, one behind the other, if they are a whole number.

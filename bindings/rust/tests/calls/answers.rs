@@ -1,6 +1,6 @@
 //! Every answer, word for word and byte for byte.
 use crate::asked::{cases, Asked, Call, Cases};
-use erbighenti::{Direction, Item, Justification, Node, Operator, Pattern, Refusal, Rule, RuleSide, TableBuilder, Terms, Wrong};
+use erbighenti::{Direction, Item, Justification, Node, Operator, Pattern, Refusal, Rule, TableBuilder, Terms};
 
 fn faults(cases: &Cases) -> Vec<String> {
     let fault = |one: &Asked| {
@@ -60,17 +60,13 @@ fn every_refusal_comes_up() {
             assert!(counted.contains_key(&(name, *number)), "{name} is never answered by {number}: {counted:?}");
         }
     }
-    let wrong: Vec<Wrong> = cases(31, 500).asked.iter().filter_map(|one| one.right.wrong).collect();
-    let at = |side| wrong.iter().filter(|wrong| matches!(wrong, Wrong::AtMark { side: other, .. } if *other == side)).count();
-    let counts = [wrong.iter().filter(|wrong| matches!(wrong, Wrong::AtNode(1..))).count(), at(RuleSide::Left), at(RuleSide::Right)];
-    assert!(counts.iter().all(|count| *count > 20), "where steps went wrong, behind a first node and on each side: {counts:?}");
     assert!(
         counted.keys().all(|(_, number)| *number == 0 || Refusal::of_number(*number).is_some()),
         "a number that is no refusal: {counted:?}"
     );
 }
 
-/// A comparison that cannot fail would be none: a wrong answer, a wrong word and another place where a step went wrong are each seen.
+/// A comparison that cannot fail would be none: a wrong answer, a wrong word and a word left behind are each seen.
 #[test]
 fn a_wrong_answer_is_seen() {
     let mut cases = cases(32, 3);
@@ -82,9 +78,6 @@ fn a_wrong_answer_is_seen() {
     let written = cases.asked.iter_mut().skip(4).find(|one| !one.right.words.is_empty()).expect("a written proof");
     written.right.words[0] ^= 1;
     assert_eq!(faults(&cases).len(), 5);
-    let rejected = cases.asked.iter_mut().skip(4).find(|one| one.right.wrong.is_some()).expect("a step that went wrong");
-    rejected.right.wrong = rejected.right.wrong.map(|wrong| Wrong::AtNode(wrong.node() + 1));
-    assert_eq!(faults(&cases).len(), 6);
 }
 
 /// The entries of a table, as the script prints them.

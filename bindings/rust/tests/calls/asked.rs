@@ -1,5 +1,5 @@
 //! Calls with their right answers, as tests/cases.py prints them.
-use erbighenti::{check, distance, query, term_text, Node, RuleSide, Tables, Wrong};
+use erbighenti::{check, distance, query, term_text, Node, Tables};
 use std::collections::BTreeMap;
 use std::process::Command;
 
@@ -27,12 +27,11 @@ pub enum Call {
     Text(Vec<u16>),
 }
 
-/// What a call says: number, value (distance, terms, place or bytes), where a step went wrong, and what it wrote.
+/// What a call says: number, value (distance, terms, place or bytes), and what it wrote.
 #[derive(Clone, Debug, Default, PartialEq, Eq)]
 pub struct Answer {
     pub number: u16,
     pub value: usize,
-    pub wrong: Option<Wrong>,
     pub words: Vec<u16>,
     pub text: String,
 }
@@ -61,14 +60,6 @@ fn pair(words: &[usize]) -> (Node, Node) {
     (Node(words[0] as u16), Node(words[1] as u16))
 }
 
-/// Where a step went wrong, by the library's own numbers.
-fn wrong(node: usize, side: usize, item: usize) -> Wrong {
-    match [RuleSide::Left, RuleSide::Right].get(side.wrapping_sub(1)) {
-        Some(side) => Wrong::AtMark { node, side: *side, item },
-        None => Wrong::AtNode(node),
-    }
-}
-
 /// One line of a call, behind its name.
 fn asked(over: usize, name: &str, rest: &str) -> Asked {
     let (before, answer) = rest.split_once('=').expect("an answer");
@@ -83,12 +74,7 @@ fn asked(over: usize, name: &str, rest: &str) -> Asked {
     }
     let said: Vec<usize> = numbers(said);
     right.value = said[0];
-    match name {
-        "query" => right.words = said[1..].iter().map(|w| *w as u16).collect(),
-        "check" if right.number == 17 => right.wrong = Some(wrong(said[1], said[2], said[3])),
-        "check" => assert_eq!(said[1..], [0; 3]),
-        _ => (),
-    }
+    right.words = said[1..].iter().map(|w| *w as u16).collect();
     let (call, lent) = match name {
         "query" => (Call::Query(pair(&asked).0, pair(&asked).1), asked[2]),
         "distance" => (Call::Distance(pair(&asked).0, pair(&asked).1), 0),
@@ -137,7 +123,7 @@ impl Asked {
         let refused = |number| Answer { number, ..Answer::default() };
         match &self.call {
             Call::Query(left, right) => match query(tables, *left, *right, area) {
-                Ok(written) => Answer { value: written.distance, words: written.words.to_vec(), ..Answer::default() },
+                Ok(written) => Answer { number: 0, value: written.distance, words: written.words.to_vec(), text: String::new() },
                 Err(refusal) => refused(refusal.number()),
             },
             Call::Distance(left, right) => match distance(tables, *left, *right) {
@@ -146,7 +132,7 @@ impl Asked {
             },
             Call::Check(_) => match check(tables, words) {
                 Ok(value) => Answer { value, ..Answer::default() },
-                Err(rejection) => Answer { value: rejection.place, wrong: rejection.wrong, ..refused(rejection.refusal.number()) },
+                Err(rejection) => Answer { value: rejection.place, ..refused(rejection.refusal.number()) },
             },
             Call::Text(_) => match term_text(words, room) {
                 Ok(text) => Answer { value: text.len(), text: text.to_string(), ..Answer::default() },

@@ -1,8 +1,7 @@
 //! The typed layer: refusals, flat terms, texts.
 use erbighenti::flat::TEXT_BYTES;
 use erbighenti::{
-    term_text, Direction, Item, Justification, Node, Operator, Pattern, Proof, Refusal, Rejection, Rule, RuleSide, TableBuilder, Tables,
-    Term, Terms, Wrong,
+    term_text, Direction, Item, Justification, Node, Operator, Pattern, Proof, Refusal, Rejection, Rule, TableBuilder, Tables, Term, Terms,
 };
 use std::collections::BTreeSet;
 
@@ -99,37 +98,11 @@ fn a_later_term_has_one_mark() {
     let over = |left: [u16; 4], right: [u16; 4]| [[5, 2, 0, 0], left, right].concat();
     let (old, new, marked) = ([1, 0, 0, 0], [2, 0, 0, 0], [2, 0, 1, 7]);
     let checked = |terms: &[Vec<u16>]| Proof::offered(terms.concat()).unwrap().check(made.tables());
-    let refused = Err(Rejection { refusal: Refusal::Marks, place: 1, wrong: None });
+    let refused = Err(Rejection { refusal: Refusal::Marks, place: 1 });
     assert_eq!(checked(&[over(old, old), over(marked, marked)]), refused);
     assert_eq!(checked(&[over(old, old), over(old, old)]), refused);
     assert_eq!(checked(&[over(old, old), over(marked, old), over(new, marked)]), Ok(3));
     assert_eq!(refused.unwrap_err().to_string(), "rejected 15 term 1: a later term does not have exactly one mark");
-}
-
-/// A step that went wrong is told by its node, and at a mark by the rule's side and item; document 01's P6 and P12 among them.
-#[test]
-fn where_a_step_went_wrong() {
-    let leaf = |operator| Pattern::operator(Operator(operator), &[]);
-    let same = Pattern::variable(0);
-    let mut made = TableBuilder::new();
-    made.rule(Rule(7), &leaf(1), &leaf(2)).unwrap();
-    made.rule(Rule(9), &Pattern::operator(Operator(5), &[same.clone(), same.clone()]), &same).unwrap();
-    let rejected = |words: &[u16]| Proof::offered(words.to_vec()).unwrap().check(made.tables()).unwrap_err();
-    let at_mark = |node, side, item| Some(Wrong::AtMark { node, side, item });
-    let rows: [(&[u16], Option<Wrong>, &str); 5] = [
-        (&[3, 1, 0, 0, 1, 0, 0, 0, 4, 1, 0, 0, 2, 0, 1, 7], Some(Wrong::AtNode(0)), "node 0"),
-        (&[5, 2, 0, 0, 1, 0, 0, 0, 1, 0, 0, 0, 5, 2, 0, 0, 2, 0, 1, 7, 3, 0, 0, 0], Some(Wrong::AtNode(2)), "node 2"),
-        (&[5, 2, 0, 0, 1, 0, 0, 0, 2, 0, 0, 0, 1, 0, 1, 9], at_mark(0, RuleSide::Left, 2), "node 0 side left item 2"),
-        (&[5, 2, 0, 0, 1, 0, 0, 0, 1, 0, 0, 0, 2, 0, 1, 9], at_mark(0, RuleSide::Right, 0), "node 0 side right item 0"),
-        // backward the left side is tried on the later term
-        (&[3, 1, 0, 0, 2, 0, 0, 0, 3, 1, 0, 0, 3, 0, 2, 7], at_mark(1, RuleSide::Left, 0), "node 1 side left item 0"),
-    ];
-    for (words, wrong, told) in rows {
-        let rejection = rejected(words);
-        assert_eq!((rejection.refusal, rejection.place, rejection.wrong), (Refusal::NoStep, 1, wrong));
-        assert_eq!(rejection.to_string(), format!("rejected 17 term 1 {told}: {}", Refusal::NoStep.words()));
-    }
-    assert_eq!(rejected(&[3, 1, 0, 0, 1, 0, 0, 0, 4, 1, 0, 0, 2, 0, 1, 8]).wrong, None, "16 comes first, and has no place inside its term");
 }
 
 /// The longest text that nodes can have fits into the room that `Term::text` takes.

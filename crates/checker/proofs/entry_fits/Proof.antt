@@ -8,6 +8,7 @@ use Rattle.model.specs.Rule.{Rule}
 use Rattle.rule_table.specs.Slots.{PatternsAt}
 use Rattle.rule_table.proofs.Entries.{EntryIs, entry-is}
 use Rattle.rule_table.proofs.Table.{left-spells, right-spells}
+use Rattle.matching.proofs.BothSides.{fit_is}
 use Rattle.checker.proofs.entry_fits.Statement.{statement}
 use Rattle.checker.proofs.entry_fits.Tie as tie
 
@@ -39,7 +40,7 @@ returns : tie.Need-returns
 returns c = λ x said e e' t u ht hu.
     let d = c.before in
     let is = entry-is _ _ x said in
-    c.rule-fits.ensures x.left x.right (left d x is) (right d x is) e e' t u ht hu
+    fit_is _ _ _ _ _ c.rule_fits.result c.rule_fits.ensures x.left x.right (left d x is) (right d x is) e e' t u ht hu
 
 pub entry-fits-spec : {M : Type 1} → statement M
 entry-fits-spec = tie.close (tie.spec left-side-requires right-side-requires rule-fits-requires returns)

@@ -1,14 +1,15 @@
 -- `checker::later_fault` meets its contract: 15, and then what the one mark tells.
 -- Assumes nothing.
 use borrow.Author.Rules.{rules}
+use native.Mathlib.Omega.{arith}
 use Prim.Native.Nat.{ℕ}
 use mathlib.Core.Path.{◌≡◌, sym, subst}
 use Rattle.model.specs.Term.{one}
 use Rattle.terms.specs.Place.{TermAt}
 use Rattle.marks.specs.declared.OneMark.{OneMark}
 use Rattle.marks.specs.Marks.{OneIs, OneAt}
-use Rattle.checker.specs.Check.{Marked}
-use Rattle.checker.proofs.Later.{flaw-marks}
+use Rattle.checker.specs.Check.{Marked, FaultIs}
+use Rattle.checker.proofs.Later.{fault-marks}
 use Rattle.checker.proofs.later_fault.Statement.{statement}
 use Rattle.checker.proofs.later_fault.Tie as tie
 
@@ -16,8 +17,8 @@ use Rattle.checker.proofs.later_fault.Tie as tie
 abbrev at-start : tie.After-one-mark → tie.Start
 at-start c = c.before.before.before
 
-abbrev at_mark_lem : tie.After-found → tie.After-one-mark
-at_mark_lem c = c.before.before
+abbrev at_mark : tie.After-found → tie.After-one-mark
+at_mark c = c.before.before
 
 one-mark-requires : tie.Need-one-mark-requires
 one-mark-requires c κs = search rules
@@ -33,13 +34,13 @@ marks : (c : tie.After-one-mark) (m : OneMark) → c.one-mark.result ≡ m → l
 marks c m e = let a = (at-start c).args in subst (OneIs a.words.now a.at) e c.one-mark.ensures
 
 returns : tie.Need-returns
-returns c = λ rs are e e' s t hs ht. flaw-marks rs (one s) (one t) (marks c.before.before _ c.enum_told.given.1 e' t ht)
+returns c = (λ z. omega (arith, z), λ rs are e e' s t hs ht. fault-marks rs (one s) (one t) (marks c.before.before _ c.enum_told.given.1 e' t ht))
 
 -- the term with its mark, behind the term before it
-known : (c : tie.After-found) → let a = (at-start (at_mark_lem c)).args in
+known : (c : tie.After-found) → let a = (at-start (at_mark c)).args in
     Marked a.words.now a.before a.at c.found.given.0.0 c.found.given.0.1.0
 known c =
-    let d = at_mark_lem c in
+    let d = at_mark c in
     let s = at-start d in
     let w = s.pre.1.1 in
     let o = marks d _ c.found.given.1 w.end w.term w.is in
@@ -52,10 +53,19 @@ known c =
     }
 
 mark-fault-requires : tie.Need-mark-fault-requires
-mark-fault-requires c κs = let f = c.before in ((at-start (at_mark_lem f)).requires.0, known f)
+mark-fault-requires c κs = let f = c.before in ((at-start (at_mark f)).requires.0, known f)
 
 returns-2 : tie.Need-returns-2
-returns-2 c = search rules
+returns-2 c = (c.if1.true, c.before.mark-fault.ensures)
+
+returns-3 : tie.Need-returns-3
+returns-3 c =
+    let m = c.before in
+    let f = m.before.before in
+    let a = (at-start (at_mark f)).args in
+    let w = known f in
+    (record { term = w.later; is = w.is_l }, subst (FaultIs a.rules.now a.words.now a.before a.at) c.if1.false m.mark-fault.ensures)
 
 pub later-fault-spec : {M : Type 1} → statement M
-later-fault-spec = tie.close (tie.spec one-mark-requires enum-known-found enum_told returns mark-fault-requires returns-2)
+later-fault-spec =
+    tie.close (tie.spec one-mark-requires enum-known-found enum_told returns mark-fault-requires returns-2 returns-3)

@@ -88,7 +88,7 @@ returns c =
     let l = (at-loop d).loop in
     let a = (at-start (at-loop d)).args in
     let f = judged d _ j.judged2.given.1 in
-    later-found a.rules.now a.words.now a.n l.before l.at l.k l.inv (omega arith) _ f
+    later-found a.rules.now a.words.now a.n l.before l.at l.k l.inv (omega arith) _ f.0 f.1
 
 returns-2 : tie.Need-returns-2 invariant-loop decreases-loop
 returns-2 c =

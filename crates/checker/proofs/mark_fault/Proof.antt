@@ -1,29 +1,27 @@
 -- `checker::mark_fault` meets its contract: 16, then 17, of a term with one mark.
 -- Assumes nothing.
 use borrow.Author.Rules.{rules}
+use borrow.Author.Tests.{not-true, not-false}
 use native.Mathlib.Omega.{arith}
 use Prim.Native.Nat.{ℕ, ◌+◌, ◌*◌}
-use mathlib.Core.Bool.{false, not}
+use mathlib.Core.Bool.{Bool, true, false, not}
 use mathlib.Core.List.{List}
 use mathlib.Core.Option.{Option}
-use mathlib.Core.Logic.{⊎_elim}
-use mathlib.Core.Path.{◌≡◌, refl, sym, ap, subst, ◌∙◌}
-use Rattle.model.specs.declared.Wrong.{Wrong}
-use Rattle.model.specs.declared.Wrong.TheVariants.{Nowhere}
+use mathlib.Core.Path.{◌≡◌, sym, ap, subst, ◌∙◌}
 use Rattle.model.specs.Judged.{good}
 use Rattle.model.specs.Limits.{flat_words}
 use Rattle.model.specs.Term.{one}
 use Rattle.model.specs.Rule.{Rule, listed, is_listed}
-use Rattle.model.specs.Step.{wrong, unlisted}
+use Rattle.model.specs.Step.{step, unlisted}
 use Rattle.model.specs.Tables.{rule_table}
 use Rattle.terms.specs.declared.TreeNode.{TreeNode}
 use Rattle.terms.specs.Place.{node_of}
 use Rattle.rule_table.specs.declared.Listed.{Listed}
 use Rattle.rule_table.specs.Entries.{where_listed}
 use Rattle.rule_table.proofs.Table.{table-found, table-nowhere}
-use Rattle.checker.specs.Check.{Marked, flaw_at, FlawIs}
-use Rattle.checker.proofs.Later.{flaw-unlisted, flaw-step, flaw-at}
-use Rattle.checker.proofs.Split.{TheMark, at_mark_lem, mark-unlisted, flaw-known}
+use Rattle.checker.specs.Check.{Marked}
+use Rattle.checker.proofs.Later.{fault-unlisted, fault-step, fault-none}
+use Rattle.checker.proofs.Split.{AtMark, at_mark, mark-unlisted, fault-known}
 use Rattle.checker.proofs.mark_fault.Statement.{statement}
 use Rattle.checker.proofs.mark_fault.Tie as tie
 
@@ -41,8 +39,8 @@ at-found c = c.before.before
 abbrev known : (s : tie.Start) → Marked s.args.words.now s.args.before s.args.at s.args.nodes s.args.end
 known s = s.requires.1
 
-abbrev mark : (s : tie.Start) → TheMark s.args.words.now s.args.at s.args.nodes (known s).later
-mark s = at_mark_lem s.args.words.now s.args.at s.args.end s.args.nodes s.args.end (known s).later (known s).mark
+abbrev mark : (s : tie.Start) → AtMark s.args.words.now s.args.at s.args.nodes (known s).later
+mark s = at_mark s.args.words.now s.args.at s.args.end s.args.nodes s.args.end (known s).later (known s).mark
 
 mul-node-at : tie.Need-overflow-mul-node-at
 mul-node-at c = let s = c.before.before in omega (arith, (mark s).words.room, s.well-formed.1.0)
@@ -80,8 +78,8 @@ returns : tie.Need-returns
 returns c =
     let d = c.before.before in
     let s = at-start d in
-    flaw-known s.args.rules.now s.args.words.now s.args.before s.args.at s.args.nodes s.args.end (known s) _ (λ rs are.
-    flaw-unlisted rs _ _ (known s).mark.alone (named s rs _ (table-nowhere _ rs _ are (place d _ c.enum_told.given.1))))
+    fault-known s.args.rules.now s.args.words.now s.args.before s.args.at s.args.nodes s.args.end (known s) 16 (λ rs are.
+    fault-unlisted rs _ _ (known s).mark.alone (named s rs _ (table-nowhere _ rs _ are (place d _ c.enum_told.given.1))))
 
 step-by-requires : tie.Need-step-by-requires
 step-by-requires c κs =
@@ -100,38 +98,27 @@ listed-there c rs are =
     named s rs _ (table-found _ rs _ _ are (place d _ f.found.given.1)).listed
 
 -- what was found of the step
-stepped : (c : tie.After-step-by) (w : Wrong) → c.step_by.result ≡ w → (rs : List Rule) → let s = at-start (at-search (at-found c)) in
-    rule_table s.args.rules.now ≡ good rs → wrong rs 0 (one (known s).earlier) (one (known s).later) ≡ w
-stepped c w e rs are =
-    let m = known (at-start (at-search (at-found c))) in
-    sym (c.step_by.ensures rs are _ _ m.earlier m.later m.is_e m.is_l) ∙ e
-
--- by it the flaw is 17, or none
-flaw : (c : tie.After-step-by) (w : Wrong) → c.step_by.result ≡ w → let s = at-start (at-search (at-found c)) in
-    FlawIs s.args.rules.now s.args.words.now s.args.before s.args.at (flaw_at w)
-flaw c w e =
-    let s = at-start (at-search (at-found c)) in
-    flaw-known s.args.rules.now s.args.words.now s.args.before s.args.at s.args.nodes s.args.end (known s) _ (λ rs are.
-    flaw-step rs _ _ (known s).mark.alone (listed-there c rs are) w (stepped c w e rs are))
-
-enum-told-2 : tie.Need-enum-told-2
-enum-told-2 c = search rules
+stepped : (c : tie.After-step-by) (b : Bool) → c.step_by.result ≡ b → (rs : List Rule) → let s = at-start (at-search (at-found c)) in
+    rule_table s.args.rules.now ≡ good rs → step rs (one (known s).earlier) (one (known s).later) ≡ b
+stepped c b e rs are =
+    let w = known (at-start (at-search (at-found c))) in
+    sym (c.step_by.ensures rs are _ _ w.earlier w.later w.is_e w.is_l) ∙ e
 
 returns-2 : tie.Need-returns-2
 returns-2 c =
-    let p = c.before.before in
-    let w = known (at-start (at-search (at-found p))) in
-    (record { term = w.later; is = w.is_l }, flaw p Nowhere c.enum-told2.given.1)
+    let p = c.before in
+    let s = at-start (at-search (at-found p)) in
+    fault-known s.args.rules.now s.args.words.now s.args.before s.args.at s.args.nodes s.args.end (known s) 17 (λ rs are.
+    fault-step rs _ _ (known s).mark.alone (listed-there p rs are) (stepped p false (not-true _ c.if1.true) rs are))
 
 returns-3 : tie.Need-returns-3
 returns-3 c =
     let p = c.before in
     let s = at-start (at-search (at-found p)) in
-    subst (FlawIs s.args.rules.now s.args.words.now s.args.before s.args.at)
-    (sym (flaw-at p.step_by.result (λ e. ⊎_elim (λ z. omega (arith, z)) (λ z. omega (arith, z)) (rw e at c.match2.keys2))))
-    (flaw p p.step_by.result refl)
+    fault-known s.args.rules.now s.args.words.now s.args.before s.args.at s.args.nodes s.args.end (known s) 0 (λ rs are.
+    fault-none rs _ _ (known s).mark.alone (listed-there p rs are) (stepped p true (not-false _ c.if1.false) rs are))
 
 pub mark-fault-spec : {M : Type 1} → statement M
 mark-fault-spec =
     tie.close
-    (tie.spec mul-node-at add-node-at node-at-requires find-rule-requires enum-known-found enum_told returns step-by-requires enum-told-2 returns-2 returns-3)
+    (tie.spec mul-node-at add-node-at node-at-requires find-rule-requires enum-known-found enum_told returns step-by-requires returns-2 returns-3)

@@ -9,12 +9,6 @@ use Rattle.explain.proofs.main.Tie as tie
 large-buffer-requires : tie.Need-large-buffer-requires
 large-buffer-requires c κs = search rules
 
-slice-aggregate-given : tie.Need-slice-aggregate-given
-slice-aggregate-given c = search rules
-
-given-requires : tie.Need-given-requires
-given-requires c κs = search rules
-
 slice-aggregate-read-all : tie.Need-slice-aggregate-read-all
 slice-aggregate-read-all c = search rules
 
@@ -45,14 +39,11 @@ slice-aggregate-read-all-9 c = search rules
 read-all-requires : tie.Need-read-all-requires
 read-all-requires c κs = record { lent = record { nodes = refl; rules = refl; conns = refl; classes = refl; area = refl; room = refl }; line = refl; bytes = omega arith }
 
-slice-aggregate-given-2 : tie.Need-slice-aggregate-given-2
-slice-aggregate-given-2 c = search rules
+arg-count-requires : tie.Need-arg-count-requires
+arg-count-requires c κs = search rules
 
-given-requires-2 : tie.Need-given-requires-2
-given-requires-2 c κs = search rules
-
-add-t40 : tie.Need-overflow-add-t40
-add-t40 c = omega (arith, digit c.before.before.before.before.before.before.before.before.before.before.before.before.read_all.ensures)
+add-t34 : tie.Need-overflow-add-t34
+add-t34 c = omega (arith, digit c.before.before.before.before.before.before.before.before.before.before.before.read_all.ensures)
 
 slice-aggregate-write-all : tie.Need-slice-aggregate-write-all
 slice-aggregate-write-all c = search rules
@@ -71,8 +62,6 @@ main_spec =
     tie.close
     (tie.spec
     large-buffer-requires
-    slice-aggregate-given
-    given-requires
     slice-aggregate-read-all
     slice-aggregate-read-all-2
     slice-aggregate-read-all-3
@@ -83,9 +72,8 @@ main_spec =
     slice-aggregate-read-all-8
     slice-aggregate-read-all-9
     read-all-requires
-    slice-aggregate-given-2
-    given-requires-2
-    add-t40
+    arg-count-requires
+    add-t34
     slice-aggregate-write-all
     write-all-requires
     returns

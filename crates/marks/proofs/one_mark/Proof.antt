@@ -11,7 +11,7 @@ use Rattle.terms.specs.Place.{TermAt, RowAt, node_of}
 use Rattle.terms.specs.declared.TreeNode.{TreeNode}
 use Rattle.terms.proofs.Place.{term-row, row_fits}
 use Rattle.marks.specs.Marks.{RestOf}
-use Rattle.marks.proofs.Single.{none_left, AtMark, at_mark_lem, two-marks, one_at}
+use Rattle.marks.proofs.Single.{none_left, AtMark, at_mark, two-marks, one_at}
 use Rattle.marks.proofs.one_mark.Statement.{statement}
 use Rattle.marks.proofs.one_mark.Tie as tie
 
@@ -52,7 +52,7 @@ found : (c : tie.After-struct-known2) → let d = at_first c in let s = at-start
 found c =
     let d = at_first c in
     let s = at-start d in
-    at_mark_lem _ _ _ _ _ (first d s.pre.end s.pre.term s.pre.is) (some c)
+    at_mark _ _ _ _ _ (first d s.pre.end s.pre.term s.pre.is) (some c)
 
 mul-place : tie.Need-overflow-mul-place
 mul-place c = omega (arith, (found c).room, (at-start (at_first c)).well-formed.0)

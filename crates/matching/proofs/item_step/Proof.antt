@@ -6,9 +6,7 @@ use mathlib.Core.Path.{sym, ◌∙◌}
 use Rattle.terms.proofs.Place.{row_room as term-room, row-well}
 use Rattle.rule_table.specs.Slots.{item_at}
 use Rattle.rule_table.proofs.Slots.{variable-small}
-use Rattle.model.specs.Tables.{item_words}
-use mathlib.Core.Bool.{false}
-use Prim.Native.Nat.{◌*◌}
+use Rattle.matching.specs.declared.Fit.TheVariants.{Off}
 use Rattle.matching.proofs.Patterns.{row_room}
 use Rattle.matching.proofs.Item.{bind-step, op-step, other_step}
 use Rattle.matching.proofs.item_step.Statement.{statement}
@@ -24,9 +22,6 @@ at-variable c = c.before.before
 abbrev at-operator : tie.After-slot2 → tie.After-slot-at
 at-operator c = c.before.before
 
-mul-slot-at : tie.Need-overflow-mul-slot-at
-mul-slot-at c = search rules
-
 slot-at-requires : tie.Need-slot-at-requires
 slot-at-requires c κs =
     let r = c.before.before.requires.1 in
@@ -40,7 +35,7 @@ bind-requires c κs =
     let v = c.before in
     let s = at-start (at-variable v) in
     let r = s.pre.1 in (
-      variable-small (item_at s.args.side.now (item_words * s.args.item)) _ (sym (at-variable v).slot_at.ensures ∙ v.slot.given.1),
+      variable-small (item_at s.args.side.now s.args.item) _ (sym (at-variable v).slot_at.ensures ∙ v.slot.given.1),
       (s.pre.0, row-well s.args.words.now s.args.at r.left r.rows.terms r.rows.is_t),
     )
 
@@ -69,16 +64,16 @@ returns-2 c =
     let d = at-operator v in
     let s = at-start d in
     let a = s.args in
-    op-step a.side.now a.item a.words.now a.at a.b c.op-step.result _ _
+    op-step a.side.now a.item a.words.now a.at a.b s.pre.0 c.op-step.result _ _
     (sym d.slot_at.ensures ∙ v.slot2.given.1) c.op-step.ensures
 
 returns-3 : tie.Need-returns-3
 returns-3 c =
     let d = c.before.before in
     let a = (at-start d).args in
-    other_step a.side.now a.item a.words.now a.at a.b (record { fits = false; at = a.at; more = 0; bound = a.b })
+    other_step a.side.now a.item a.words.now a.at a.b (record { fit = Off; at = a.at; more = 0; bound = a.b })
     (sym d.slot_at.ensures ∙ c.enum_told.given.1)
 
 pub item-step-spec : {M : Type 1} → statement M
 item-step-spec =
-    tie.close (tie.spec mul-slot-at slot-at-requires enum-known-slot bind-requires enum-known-slot-2 op-step-requires enum_told returns returns-2 returns-3)
+    tie.close (tie.spec slot-at-requires enum-known-slot bind-requires enum-known-slot-2 op-step-requires enum_told returns returns-2 returns-3)

@@ -1,45 +1,60 @@
--- `reports::put_one` meets its contract: the line feed is put behind the field.
+-- `reports::put_one` meets its contract: each part is put behind the one before.
 use borrow.Author.Rules.{rules}
 use native.Mathlib.Omega.{arith}
-use Prim.Native.Nat.{◌+◌, ◌≤◌}
-use mathlib.Core.List.{append_assoc}
-use lib.ListN.{length}
-use Rattle.model.specs.Text.{bytes}
-use Rattle.reports.specs.Reports.{number_room, field, one_field}
-use Rattle.reports.proofs.Fields.{Put, field_fits, put_first, put-long, put-more, put-in-front}
+use Prim.Native.Nat.{◌≤◌}
+use mathlib.Core.List.{◌++◌}
+use lib.ListN.{length, length-append}
+use Rattle.model.specs.Text.{bytes, digits}
+use Rattle.reports.specs.Reports.{number_room}
+use Rattle.reports.proofs.Fields.{Put, number_fits, put_first, put-long, put-more, put_as, one-grown}
 use Rattle.reports.proofs.put_one.Statement.{statement}
 use Rattle.reports.proofs.put_one.Tie as tie
 
-abbrev at-start : tie.After-put-field → tie.Start
+abbrev at-start : tie.After-put → tie.Start
 at-start c = c.before.before.before.before
 
-short : (c : tie.Start) → length (field c.args.a.now c.args.n) ≤ length c.args.a.now + number_room
-short c = field_fits c.args.a.now c.args.n (omega arith)
+fits : (c : tie.Start) → length (digits c.args.n) ≤ number_room
+fits c = number_fits c.args.n (omega arith)
 
-numbered : (c : tie.After-put-field) → let a = (at-start c).args in
-    Put a.room.now 0 (field a.a.now a.n) c.put-field.new.0 c.put-field.result
-numbered c = let e = c.put-field.ensures in put_first 0 _ (omega (arith, short (at-start c))) (e.0, e.1.0)
+-- the name, and the number behind it
+named : (c : tie.After-put) → let a = (at-start c).args in Put a.room.now a.a.now c.put.new.0 c.put.result
+named c = put_first _ (omega arith) c.put.ensures
 
-put-field-requires : tie.Need-put-field-requires
-put-field-requires c κs = search rules
+numbered : (c : tie.After-put-number) → let a = (at-start c.before.before.before.before).args in
+    Put a.room.now (a.a.now ++ digits a.n) c.put-number.new.0 c.put-number.result
+numbered c =
+    let s = at-start c.before.before.before.before in
+    put-more (named c.before.before.before.before) (digits s.args.n) (omega (arith, fits s)) c.put-number.ensures
+
+put-requires : tie.Need-put-requires
+put-requires c κs = search rules
+
+put-number-requires : tie.Need-put-number-requires
+put-number-requires c κs =
+    let w = c.before.before.before in
+    omega (arith, put-long (named w), (named w).ends, fits (at-start w))
 
 slice-aggregate-put : tie.Need-slice-aggregate-put
 slice-aggregate-put c = search rules
 
-put-requires : tie.Need-put-requires
-put-requires c κs =
+put-requires-2 : tie.Need-put-requires-2
+put-requires-2 c κs =
     let w = c.before.before.before.before in
-    omega (arith, put-long (numbered w), (numbered w).ends, short (at-start w))
+    let s = at-start w.before.before.before.before in
+    omega (arith, put-long (numbered w), (numbered w).ends, length-append s.args.a.now (digits s.args.n), fits s)
 
 same_length : tie.Need-same-length
 same_length c = search rules
 
 returns : tie.Need-returns
-unfolding one_field field bytes
+unfolding bytes
 returns c =
     let f = c.before.before in
     let w = f.before.before.before.before.before in
-    put-in-front (put-more (numbered w) (bytes "\n") (omega (arith, short (at-start w))) f.put.ensures) (simp append_assoc)
+    let s = at-start w.before.before.before.before in
+    put_as
+    (put-more (numbered w) (bytes "\n") (omega (arith, length-append s.args.a.now (digits s.args.n), fits s)) f.put2.ensures)
+    (one-grown s.args.a.now s.args.n)
 
 pub put-one-spec : {M : Type 1} → statement M
-put-one-spec = tie.close (tie.spec put-field-requires slice-aggregate-put put-requires same_length returns)
+put-one-spec = tie.close (tie.spec put-requires put-number-requires slice-aggregate-put put-requires-2 same_length returns)

