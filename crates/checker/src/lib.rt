@@ -1,5 +1,7 @@
 // The strict checker. For each later term it judges, in this order: that it has exactly one mark (15), which names a listed rule (16),
 // and the step from the term before (17): the rule at the mark, and everything before it and behind it the same. Terms are walked flat.
+#![tactic(auto)]
+
 ghost use Rattle.std.specs.Prelude.{◌≡◌, ◌+◌, ◌*◌, ◌<◌};
 ghost use Rattle.model.specs.Limits.{flat_words};
 ghost use Rattle.terms.specs.Place.{node_of, Well, EndsAt};
@@ -100,7 +102,7 @@ fn mark_fault(
 }
 
 // What became of a later term: it ends there and may follow the one before, or a fault.
-#[derive(Drop)]
+#[derive(Clone, Copy)]
 enum Following {
     Ends(usize),
     Fault(u16),

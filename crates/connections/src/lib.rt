@@ -1,5 +1,7 @@
 // The connection table: its entries read, and judged one by one. A connection is five words: current, next, kind, rule, forward.
 // While connections are judged, a table of classes has a word for each node: the node at the top of its class.
+#![tactic(auto)]
+
 ghost use Rattle.std.specs.Prelude.{◌≡◌, ◌+◌, ◌*◌, ◌/◌, ◌<◌, ◌≤◌, length, get_or};
 ghost use Rattle.model.specs.Limits.{node_limit};
 ghost use Rattle.model.specs.Judged.{judgement_of};

@@ -1,5 +1,7 @@
 // Distances: the cost of each connection in the order of age, written into the rows, and the sum over a path, held at a cap.
 // A cost is computed from older ones alone, each once.
+#![tactic(auto)]
+
 ghost use Rattle.std.specs.Prelude.{List, ◌≡◌, ℕ, ◌+◌, ◌/◌, ◌<◌, ◌≤◌, length};
 ghost use Rattle.model.specs.declared.Connection.{Connection};
 ghost use Rattle.model.specs.Forest.{cur, nxt, cost_by, sum_pairs, dist};

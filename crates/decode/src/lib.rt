@@ -1,5 +1,7 @@
 // A frame's bytes, behind the byte of its kind, turned into what it says: an entry written into a slot of its table, a pair of nodes,
 // or the words of an offered proof. A frame that says none of its kind leaves the slot as it was.
+#![tactic(auto)]
+
 mod sides;
 
 ghost use Rattle.std.specs.Prelude.{◌≡◌, ◌+◌, ◌≤◌, ◌<◌, length, get_or, replicate};
@@ -30,14 +32,14 @@ const QUERY_BYTES: usize = 4;
 const SIX_BYTES: usize = 6;
 
 // The pair of nodes that a query's frame names.
-#[derive(Drop)]
+#[derive(Clone, Copy)]
 pub enum Pair {
     Nodes(NodeNo, NodeNo),
     Wrong,
 }
 
 // How many words a frame of an offered proof holds.
-#[derive(Drop)]
+#[derive(Clone, Copy)]
 pub enum Offered {
     Words(usize),
     Wrong,

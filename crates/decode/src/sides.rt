@@ -9,7 +9,7 @@ use super::{wide_byte, word_at};
 use model::{CHILD_LIMIT, ITEM_LIMIT, ITEM_WORDS, VARIABLE_LIMIT, wide};
 
 // An item of a rule's frame: how many bytes it has, 0 where there is none, and its three words.
-#[derive(Drop)]
+#[derive(Clone, Copy)]
 pub struct Part {
     pub size: usize,
     pub kind: u16,
@@ -18,7 +18,7 @@ pub struct Part {
 }
 
 // A side of a rule's frame: how many items it has, and where they end.
-#[derive(Drop)]
+#[derive(Clone, Copy)]
 pub enum Side {
     Items(usize, usize),
     Wrong,

@@ -21,14 +21,14 @@ pub const STOPPED: u8 = 2;
 pub const TROUBLE: u8 = 3;
 
 // After a line, or what is left of a piece: where to go on in the piece, or the run is over.
-#[derive(Drop)]
+#[derive(Clone, Copy)]
 enum Stepped {
     Goes(Place, usize),
     Ends(u8),
 }
 
 // After a piece: the place, or the run is over.
-#[derive(Drop)]
+#[derive(Clone, Copy)]
 enum Reading {
     Goes(Place),
     Ends(u8),

@@ -1,9 +1,11 @@
 // Reads frames from standard input and prints what they come to, each answer when its line is read. Started with an argument it writes
 // what the run came to as one digit on descriptor 3, since a program of this language has no exit status of its own.
+#![tactic(auto)]
+
 mod input;
 
 use frames::{AREA_WORDS, CONNECTION_ROOM, NODE_ROOM, RULE_ROOM, TEXT_ROOM};
-use hex::DIGIT_LIMIT;
+use hex_lines::DIGIT_LIMIT;
 use input::read_all;
 use model::NODE_LIMIT;
 use pieces::KEPT_LIMIT;

@@ -1,5 +1,7 @@
 // The face: entry points over tables handed in whole. They take any words, end, and refuse by document 01's numbers.
 // The tables are u16 words: a node is 10, a rule 387, a connection 5 (their layouts are in crate model, specs/Tables.antt).
+#![tactic(auto)]
+
 ghost use Rattle.std.specs.Prelude.{◌≡◌, ◌/◌, length};
 ghost use Rattle.model.specs.Judged.{judgement_of};
 ghost use Rattle.model.specs.declared.Measured.TheVariants.{Distance};

@@ -1,6 +1,8 @@
 // The connections climbed: a row for each node, all that a climb reads of it, and where two climbs meet.
 // A row is four words: where the node's parent connection leads, the age of that connection and 1, what it costs, and the node's depth
 // and 1. A node without a parent leads to itself, has age 0 and cost 0.
+#![tactic(auto)]
+
 ghost use Rattle.std.specs.Prelude.{List, [], ◌++◌, ◌≡◌, ℕ, suc, ◌+◌, ◌*◌, ◌<◌, ◌≤◌, length, get_or, set, drop};
 ghost use Rattle.model.specs.declared.Connection.{Connection};
 ghost use Rattle.model.specs.Limits.{node_limit};

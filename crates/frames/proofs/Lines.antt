@@ -15,9 +15,9 @@ use Rattle.model.specs.Run.{State, stop, turn_if, in_order, line_turn}
 use Rattle.laws.specs.Area.{splice, part}
 use Rattle.laws.proofs.Area.{splice-inside, part-of-written}
 use Rattle.laws.specs.Present.{present}
-use Rattle.hex.specs.Line.{decoded}
-use Rattle.hex.proofs.Lines.{no-digits, many-digits}
-use Rattle.hex.proofs.Spelled.{line-pairs}
+use Rattle.hex_lines.specs.Line.{decoded}
+use Rattle.hex_lines.proofs.Lines.{no-digits, many-digits}
+use Rattle.hex_lines.proofs.Spelled.{line-pairs}
 
 -- two digits a byte
 pairs-long : (ds bs : List ℕ) → hex_pairs ds ≡ some bs → length ds ≡ 2 * length bs

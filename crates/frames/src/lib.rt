@@ -1,5 +1,7 @@
 // Frames: one line in, what it prints out. The tables, the words of an open proof and the text are lent; how much of them counts is
 // passed by value.
+#![tactic(auto)]
+
 mod steps;
 
 ghost use Rattle.std.specs.Prelude.{◌≡◌, ◌≤◌, length};
@@ -8,7 +10,7 @@ ghost use Rattle.laws.specs.Area.{splice};
 ghost use Rattle.frames.specs.State.{text_room, Running, Lent, frame_room};
 ghost use Rattle.frames.specs.Step.{FrameStep, LineStep, LineTurn, end_text};
 
-use hex::{is_line, put_bytes};
+use hex_lines::{is_line, put_bytes};
 use model::{CONNECTION_WORDS, FLAT_WORDS, NODE_LIMIT, NODE_WORDS, RULE_LIMIT, RULE_WORDS};
 use reports::{REPORT_ROOM, put_refusal};
 use steps::{close_step, connection_step, node_step, query_step, rule_step, words_step};
@@ -28,7 +30,7 @@ pub const AREA_WORDS: usize = 32768;
 pub const TEXT_ROOM: usize = AREA_WORDS / FLAT_WORDS * 28 + REPORT_ROOM;
 
 // The kind of the last frame, how many entries each table has, and how many words the open proof.
-#[derive(Drop)]
+#[derive(Clone, Copy)]
 pub struct Counts {
     pub kind: u8,
     pub nodes: usize,
@@ -38,14 +40,14 @@ pub struct Counts {
 }
 
 // What a frame comes to: it is taken and prints so many bytes, or the run is refused.
-#[derive(Drop)]
+#[derive(Clone, Copy)]
 pub enum Step {
     Goes(Counts, usize),
     Refuses(u16),
 }
 
 // What a line comes to: it is taken and prints so many bytes, or a refusal is printed that ends the run.
-#[derive(Drop)]
+#[derive(Clone, Copy)]
 pub enum Printed {
     Goes(Counts, usize),
     Stops(usize),

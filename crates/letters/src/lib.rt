@@ -1,4 +1,6 @@
 // Bytes of a text put into a lent room: byte strings, and numbers in decimal digits.
+#![tactic(auto)]
+
 ghost use Rattle.std.specs.Prelude.{◌≡◌, ◌+◌, ◌≤◌, length};
 ghost use Rattle.model.specs.Text.{digits};
 ghost use Rattle.laws.specs.Area.{splice};

@@ -1,6 +1,8 @@
 // Marks in flat terms: a row is walked in preorder to its first mark (14), and a term to its second, so that one pass tells whether it
 // has exactly one mark (15), where that stands and where the term ends. Terms are walked flat, by a pending count: how many terms are
 // still to be read.
+#![tactic(auto)]
+
 ghost use Rattle.std.specs.Prelude.{◌≡◌};
 ghost use Rattle.terms.specs.Place.{Well};
 ghost use Rattle.marks.specs.Marks.{HasRow, RestIs, MarkedIs, OneIs};
@@ -9,7 +11,7 @@ use model::FLAT_WORDS;
 
 // A row of terms from its first mark on: behind how many nodes it stands, and how many terms are still to be read there. None are
 // where the row has no mark.
-#[derive(Drop)]
+#[derive(Clone, Copy)]
 struct Rest {
     nodes: usize,
     pending: usize,
@@ -46,7 +48,7 @@ pub fn marked(words: &[u16], at: usize, count: usize) -> bool
 }
 
 // The one mark of a term: behind how many of its nodes it stands, and where the term ends. Or the term has none, or more than one.
-#[derive(Drop)]
+#[derive(Clone, Copy)]
 pub enum OneMark {
     Behind { nodes: usize, end: usize },
     Not,

@@ -1,5 +1,7 @@
 // Matching: whether some substitution makes a rule's two sides two given subterms, marks aside. A side is read item by item, as
 // the rule table hands it out.
+#![tactic(auto)]
+
 ghost use Rattle.std.specs.Prelude.{◌≡◌, ◌+◌, ◌≤◌, ◌<◌, length};
 ghost use Rattle.model.specs.Limits.{variable_limit, flat_words};
 ghost use Rattle.terms.specs.Place.{Well};
@@ -10,14 +12,14 @@ use model::{Bindings, FLAT_WORDS, ITEM_WORDS, OpNo, Span, VARIABLE_LIMIT};
 use rule_table::Slot;
 
 // Whether what was to fit does.
-#[derive(Drop)]
+#[derive(Clone, Copy)]
 pub enum Fit {
     Fits,
     Off,
 }
 
 // What became of one item: where the terms go on, how many terms the item adds to those still to be matched, and what is bound.
-#[derive(Drop)]
+#[derive(Clone, Copy)]
 struct ItemFit {
     fit: Fit,
     at: usize,
@@ -26,7 +28,7 @@ struct ItemFit {
 }
 
 // What became of a side, and what is bound.
-#[derive(Drop)]
+#[derive(Clone, Copy)]
 struct SideFit {
     fit: Fit,
     bound: Bindings,

@@ -1,34 +1,36 @@
 // The types that document 01 names, its limits, and three functions that every room has: a word as a count, a word of an entry, and
 // what makes two nodes the same operator. What the types mean is said in specs/.
+#![tactic(auto)]
+
 ghost use Rattle.std.specs.Prelude.{◌≡◌, ◌+◌, ◌<◌, length, get_or};
 ghost use Rattle.model.specs.Term.{same_op};
 
 // Node, rule and operator numbers are three kinds that must never be exchanged.
-#[derive(Drop)]
+#[derive(Clone, Copy)]
 pub struct NodeNo(pub u16);
 
-#[derive(Drop)]
+#[derive(Clone, Copy)]
 pub struct RuleNo(pub u16);
 
-#[derive(Drop)]
+#[derive(Clone, Copy)]
 pub struct OpNo(pub u16);
 
 // Which way round a rule connection, or a mark, applies its rule.
-#[derive(Drop)]
+#[derive(Clone, Copy)]
 pub enum Direction {
     Forward,
     Backward,
 }
 
 // Why a connection stands: a rule with its number and direction, or congruence.
-#[derive(Drop)]
+#[derive(Clone, Copy)]
 pub enum Justification {
     Rule(RuleNo, Direction),
     Congruence,
 }
 
 // A connection goes from current to next. Its age is its place in the table.
-#[derive(Drop)]
+#[derive(Clone, Copy)]
 pub struct Connection {
     pub current: NodeNo,
     pub next: NodeNo,
@@ -36,48 +38,48 @@ pub struct Connection {
 }
 
 // Where a subterm's words start and end.
-#[derive(Drop)]
+#[derive(Clone, Copy)]
 pub struct Span {
     pub start: usize,
     pub end: usize,
 }
 
 // What each of the sixteen variables is bound to. A variable with an empty span is not bound.
-#[derive(Drop)]
+#[derive(Clone, Copy)]
 pub struct Bindings {
     pub spans: [Span; VARIABLE_LIMIT],
 }
 
 // What judging an entry of a table answers: it is taken, or the number of the refusal.
-#[derive(Drop)]
+#[derive(Clone, Copy)]
 pub enum Judgement {
     Taken,
     Faulty(u16),
 }
 
 // What the strict checker answers: the count of terms, or the number of a refusal and the term's place from 0.
-#[derive(Drop)]
+#[derive(Clone, Copy)]
 pub enum Verdict {
     Accepted(usize),
     Rejected(u16, usize),
 }
 
 // What the distance of a pair answers: the distance, or the number of a refusal.
-#[derive(Drop)]
+#[derive(Clone, Copy)]
 pub enum Measured {
     Distance(usize),
     Unmeasured(u16),
 }
 
 // What a query answers: the distance and the words written, or the number of a refusal.
-#[derive(Drop)]
+#[derive(Clone, Copy)]
 pub enum Answer {
     Written(usize, usize),
     Refused(u16),
 }
 
 // What the text of a term answers: the bytes written, or the number of a refusal.
-#[derive(Drop)]
+#[derive(Clone, Copy)]
 pub enum Printed {
     Bytes(usize),
     NoText(u16),

@@ -1,6 +1,8 @@
 // How many words a query's proof needs, known before the first of them is written: what each connection appends, in the order of age,
 // and the sum over the path. A connection that is walked from current to next appends other terms than one that is walked back, so
 // there are two tables. Numbers of nodes are held at a cap, the first whose words are past the limit.
+#![tactic(auto)]
+
 ghost use Rattle.std.specs.Prelude.{List, ◌≡◌, ℕ, ◌/◌, ◌<◌, ◌≤◌, length, get_or};
 ghost use Rattle.model.specs.declared.Connection.{Connection};
 ghost use Rattle.model.specs.Limits.{node_limit, distance_limit};
@@ -22,7 +24,7 @@ use paths::Meeting;
 use trees::{amount, held, size_of, sizes_from};
 
 // What a path costs, and how many nodes it appends.
-#[derive(Drop)]
+#[derive(Clone, Copy)]
 pub struct Need {
     pub cost: usize,
     pub nodes: usize,

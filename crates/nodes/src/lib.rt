@@ -1,4 +1,6 @@
 // The node table: its entries judged, and read. A node is ten words: its operator, how many children it has, and eight places for these.
+#![tactic(auto)]
+
 ghost use Rattle.std.specs.Prelude.{◌≡◌, ◌+◌, ◌*◌, ◌<◌, ◌≤◌, length, get_or};
 ghost use Rattle.model.specs.Limits.{node_limit, child_limit};
 ghost use Rattle.model.specs.Judged.{judgement_of};

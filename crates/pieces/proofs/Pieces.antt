@@ -11,7 +11,7 @@ use lib.Seq.{take_all, take-append-le, length-take-le, take-take}
 use borrow.Author.Tests.{leb-true, leb-false}
 use Rattle.model.specs.Frame.{line_bytes}
 use Rattle.model.specs.Run.{State, start, Turn, go, stop, line_turn, refusal_text, line_feed, InputLines, line_front, split, at_end, run, output}
-use Rattle.hex.proofs.Lines.{cut_line}
+use Rattle.hex_lines.proofs.Lines.{cut_line}
 use Rattle.pieces.specs.Line.{kept_limit, cut}
 use Rattle.pieces.specs.Pieces.{lines_then, feed, feed_all, together, cut_lines}
 

@@ -1,10 +1,12 @@
 // Lines gathered from input that comes in pieces of any size. A line may lie in several pieces. Of a line that is too long no more
 // is kept than tells so: it costs no more memory than another.
+#![tactic(auto)]
+
 ghost use Rattle.std.specs.Prelude.{◌≡◌, ◌≤◌, length, drop};
 ghost use Rattle.laws.specs.Area.{splice};
 ghost use Rattle.pieces.specs.Line.{kept_limit, up_to_feed, fitting, gathered};
 
-use hex::DIGIT_LIMIT;
+use hex_lines::DIGIT_LIMIT;
 
 // The most bytes of a line that are kept: one more than it may have.
 pub const KEPT_LIMIT: usize = DIGIT_LIMIT + 1;
@@ -12,7 +14,7 @@ pub const KEPT_LIMIT: usize = DIGIT_LIMIT + 1;
 const LINE_FEED: u8 = 10;
 
 // Where a piece is to be read on, how many bytes of the line are held, and whether a line feed has made it whole.
-#[derive(Drop)]
+#[derive(Clone, Copy)]
 pub struct Gathered {
     pub next: usize,
     pub held: usize,

@@ -5,7 +5,7 @@ use mathlib.Core.List.{List, [], ◌∷◌, map}
 use mathlib.Core.Path.{◌≡◌, refl, ap, ◌∙◌}
 use Rattle.model.specs.Frame.{line_bytes}
 use Rattle.model.specs.Run.{State, start, Turn, go, stop, line_turn, at_end, split, InputLines}
-use Rattle.hex.proofs.Lines.{cut_line}
+use Rattle.hex_lines.proofs.Lines.{cut_line}
 use Rattle.pieces.specs.Line.{cut}
 use Rattle.pieces.specs.Pieces.{feed_all, together}
 use Rattle.pieces.proofs.Pieces.{pieces-split}

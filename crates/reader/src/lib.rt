@@ -1,4 +1,6 @@
 // The input read on: from a piece of it, one line or what is left of the piece.
+#![tactic(auto)]
+
 ghost use Rattle.std.specs.Prelude.{◌≡◌, ◌≤◌, length};
 ghost use Rattle.pieces.specs.Line.{kept_limit};
 ghost use Rattle.frames.specs.State.{Running, Lent, frame_room};
@@ -11,7 +13,7 @@ const LETTER_R: u8 = 114;
 
 // Between two lines, or within one: what counts of the tables, the line's number from 1, how many of its bytes are held, and whether
 // a query was refused or a proof rejected so far.
-#[derive(Drop)]
+#[derive(Clone, Copy)]
 pub struct Place {
     pub counts: Counts,
     pub line: u64,
@@ -21,7 +23,7 @@ pub struct Place {
 
 // What reading on comes to: where the piece is to be read on and how many bytes are printed; or a refusal is printed that ends the
 // run.
-#[derive(Drop)]
+#[derive(Clone, Copy)]
 pub enum Advance {
     Goes(Place, usize, usize),
     Stops(usize),

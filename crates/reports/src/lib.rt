@@ -1,4 +1,6 @@
 // What the program prints beside terms: a refusal with its line, a verdict, a distance; each put at the front of a room.
+#![tactic(auto)]
+
 ghost use Rattle.std.specs.Prelude.{◌≡◌, ◌+◌, ◌≤◌, length};
 ghost use Rattle.model.specs.Run.{refusal_text, verdict_text};
 ghost use Rattle.laws.specs.Area.{splice};

@@ -1,6 +1,8 @@
 // The rule table. An entry is its number, how many items its left and its right side have, and 64 slots of three words (kind,
 // variable or operator, count) for each side. Entries are judged one by one, looked up by their numbers, and hand out their sides.
 // A table's length says how many entries it has.
+#![tactic(auto)]
+
 ghost use Rattle.std.specs.Prelude.{◌≡◌, ◌+◌, ◌*◌, ◌≤◌, min, length};
 ghost use Rattle.model.specs.Judged.{judgement_of};
 ghost use Rattle.model.specs.Tables.{item_words, side_words, rule_words, side_at, rule_table};
@@ -13,14 +15,14 @@ use model::{
 };
 
 // Where a rule number is listed.
-#[derive(Drop)]
+#[derive(Clone, Copy)]
 pub enum Listed {
     At(usize),
     Nowhere,
 }
 
 // What an item slot holds: a variable, an operator with its child count, or a field outside its set.
-#[derive(Drop)]
+#[derive(Clone, Copy)]
 pub enum Slot {
     Variable(usize),
     Operator(OpNo, u16),

@@ -1,5 +1,7 @@
 // Tables that grow by an entry: what a frame says is written behind the entries that were accepted, judged there as a table handed in
 // whole would be, and counted by the caller where it is taken. A refused entry adds nothing: what stands behind the count plays no part.
+#![tactic(auto)]
+
 ghost use Rattle.std.specs.Prelude.{◌≡◌, ◌+◌, ◌-◌, ◌*◌, ◌≤◌, length, take};
 ghost use Rattle.model.specs.Judged.{judgement_of};
 ghost use Rattle.model.specs.Frame.{node_frame, rule_frame, connection_frame};

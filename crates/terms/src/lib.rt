@@ -1,5 +1,7 @@
 // Flat terms: four words a node in preorder, which are its operator, child count, mark and rule. Terms can be very deep, so
 // they are walked flat, by a pending count: how many terms are still to be read.
+#![tactic(auto)]
+
 ghost use Rattle.std.specs.Prelude.{◌≡◌, ◌+◌, ◌*◌, ◌≤◌, length};
 ghost use Rattle.model.specs.Limits.{flat_words};
 ghost use Rattle.model.specs.Term.{read};
@@ -9,7 +11,7 @@ ghost use Rattle.terms.specs.Whole.{whole_of};
 use model::{CHILD_LIMIT, FLAT_WORDS, OpNo, RuleNo, same_op, wide};
 
 // A node's four words.
-#[derive(Drop)]
+#[derive(Clone, Copy)]
 pub struct TreeNode {
     pub op: OpNo,
     pub count: u16,
@@ -18,14 +20,14 @@ pub struct TreeNode {
 }
 
 // Where a term ends.
-#[derive(Drop)]
+#[derive(Clone, Copy)]
 enum TermEnd {
     At(usize),
     Broken,
 }
 
 // How many terms words are.
-#[derive(Drop)]
+#[derive(Clone, Copy)]
 pub enum WholeTerms {
     Count(usize),
     Broken,

@@ -1,5 +1,7 @@
 // The text of flat terms: one term into a lent room, and each term on a line of its own. Terms can be very deep, so that they are
 // written flat: the stack of open brackets stands at the end of the room, where the closing brackets will stand.
+#![tactic(auto)]
+
 ghost use Rattle.std.specs.Prelude.{◌≡◌, [], ◌++◌, ◌+◌, ◌-◌, ◌≤◌, ◌<◌, length, take, drop, replicate};
 ghost use Rattle.model.specs.Limits.{child_limit};
 ghost use Rattle.model.specs.Text.{term_text, room_after};
@@ -13,14 +15,14 @@ use model::{FLAT_WORDS, Printed, RuleNo};
 use terms::{TreeNode, WholeTerms, end_of, node_at, whole_terms};
 
 // Whether a text fits: how many bytes it has, if they are within a limit.
-#[derive(Drop)]
+#[derive(Clone, Copy)]
 enum Fit {
     Within(usize),
     Beyond,
 }
 
 // How far a text is written, and where the stack of open brackets starts.
-#[derive(Drop)]
+#[derive(Clone, Copy)]
 struct Pen {
     at: usize,
     top: usize,

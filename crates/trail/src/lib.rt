@@ -1,5 +1,7 @@
 // Paths laid on a trail: a stack of the ages of connections that are still to be walked, the first of a path highest.
 // A connection that costs nothing appends nothing and is never laid, so that a path takes no more of the trail than its distance.
+#![tactic(auto)]
+
 ghost use Rattle.std.specs.Prelude.{◌≡◌, List, reverse, ℕ, ◌+◌, ◌-◌, ◌<◌, ◌≤◌, length, get_or};
 ghost use Rattle.model.specs.declared.Connection.{Connection};
 ghost use Rattle.model.specs.Limits.{node_limit, term_limit};
@@ -14,7 +16,7 @@ use model::{NodeNo, TERM_LIMIT, wide};
 use paths::Meeting;
 
 // A path on the trail: the connections at `turn` and above are walked up, those below it down.
-#[derive(Drop)]
+#[derive(Clone, Copy)]
 pub struct Route {
     pub turn: usize,
     pub top: usize,

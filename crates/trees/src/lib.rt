@@ -2,6 +2,8 @@
 // tree has, held at a cap, since trees of g(x, x) double with each node.
 // A term is written behind the last one, from whose words it is copied without their marks, but for one subterm. Where that
 // stands is known by lengths alone, so that nothing is searched.
+#![tactic(auto)]
+
 ghost use Rattle.std.specs.Prelude.{◌≡◌, [], ◌∷◌, ◌++◌, ◌+◌, ◌-◌, ◌*◌, ◌/◌, ◌<◌, ◌≤◌, length, get_or, take, drop, replicate};
 ghost use Rattle.model.specs.Limits.{node_limit, child_limit, flat_words};
 ghost use Rattle.model.specs.Term.{one, words, marked, direction_word};
@@ -23,7 +25,7 @@ use terms::node_at;
 pub const NODE_CAP: usize = WORD_LIMIT / FLAT_WORDS + 1;
 
 // A subterm of the last term: how many words stand before it and behind it, and where that term ends.
-#[derive(Drop)]
+#[derive(Clone, Copy)]
 pub struct Spot {
     pub place: usize,
     pub post: usize,

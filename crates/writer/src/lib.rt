@@ -1,6 +1,8 @@
 // The flat proof of a joined pair, written: path writer and congruence writer call each other, and the bound on age falls at each round.
 // Each appends at a spot of the last term: how many words stand before it and behind it is known, so that nothing is searched. The costly
 // connections of a path are laid on a trail that all open calls share, and taken from it one by one.
+#![tactic(auto)]
+
 ghost use Rattle.std.specs.Prelude.{◌≡◌, ◌/◌, ◌<◌, ◌≤◌, length};
 ghost use Rattle.model.specs.Limits.{distance_limit, word_limit};
 ghost use Rattle.model.specs.Tables.{connection_words};

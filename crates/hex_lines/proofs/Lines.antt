@@ -12,8 +12,8 @@ use lib.Seq.{take_all, length-take-le}
 use Rattle.model.specs.Limits.{digit_limit}
 use Rattle.model.specs.Frame.{hex_digit, byte_front, hex_pairs, line_bytes}
 use Rattle.laws.specs.Present.{present}
-use Rattle.hex.specs.Line.{value_of}
-use Rattle.hex.proofs.Digits.{a-digit, none-there, pair-at}
+use Rattle.hex_lines.specs.Line.{value_of}
+use Rattle.hex_lines.proofs.Digits.{a-digit, none-there, pair-at}
 
 -- "is empty, exceeds 8,192 digits"
 module _ (ds : List ℕ) where

@@ -2,8 +2,8 @@
 use mathlib.Core.Bool.{Bool}
 use mathlib.Core.Path.{◌≡◌, sym, ◌∙◌}
 use contract.Lifetimes.{Lfts}
-use Rattle.hex.proofs.is_line.Reads as is-line
-use Rattle.hex.proofs.put_bytes.Reads as put-bytes
+use Rattle.hex_lines.proofs.is_line.Reads as is-line
+use Rattle.hex_lines.proofs.put_bytes.Reads as put-bytes
 
 is-line-only : (κs : Lfts 1) (a s s' : _) (r r' : Bool) → is-line.Post κs a r s → is-line.Post κs a r' s' → r ≡ r'
 is-line-only κs a s s' r r' p q = p ∙ sym q

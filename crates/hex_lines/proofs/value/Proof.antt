@@ -1,9 +1,9 @@
--- `hex::value` meets its contract, by the ranges of the byte.
+-- `hex_lines::value` meets its contract, by the ranges of the byte.
 use native.Mathlib.Omega.{arith}
 use borrow.Author.Rules.{rules}
-use Rattle.hex.proofs.Digits.{below, number, between, letter, above}
-use Rattle.hex.proofs.value.Statement.{statement}
-use Rattle.hex.proofs.value.Tie as tie
+use Rattle.hex_lines.proofs.Digits.{below, number, between, letter, above}
+use Rattle.hex_lines.proofs.value.Statement.{statement}
+use Rattle.hex_lines.proofs.value.Tie as tie
 
 returns : tie.Need-returns
 returns c = below _ c.if1.true

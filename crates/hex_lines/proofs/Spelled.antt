@@ -14,8 +14,8 @@ use Rattle.model.specs.Frame.{hex_digit, byte_front, hex_pairs, line_bytes}
 use Rattle.laws.specs.Area.{splice}
 use Rattle.laws.proofs.Area.{length-splice, splice-none, splice-push}
 use Rattle.laws.specs.Present.{present}
-use Rattle.hex.specs.Line.{value_of, decoded}
-use Rattle.hex.proofs.Digits.{small, pair-at}
+use Rattle.hex_lines.specs.Line.{value_of, decoded}
+use Rattle.hex_lines.proofs.Digits.{small, pair-at}
 
 -- a line spells its bytes
 pub line-pairs : (ds : List ℕ) → present (line_bytes ds) ≡ true → (hex_pairs ds ≡ some (decoded ds)) × (line_bytes ds ≡ some (decoded ds))

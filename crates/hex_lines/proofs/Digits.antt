@@ -10,7 +10,7 @@ use lib.Dec.{leb}
 use lib.ListN.{length, get_or, drop, length-drop}
 use lib.Seq.{get_or-drop, drop-drop}
 use Rattle.model.specs.Frame.{is_between, hex_by, hex_digit, byte_front, hex_pairs}
-use Rattle.hex.specs.Line.{value_of}
+use Rattle.hex_lines.specs.Line.{value_of}
 
 -- what the tests of a byte say of its value
 module _ (b : ℕ) where

@@ -1,9 +1,11 @@
 // Lines of hexadecimal: whether a line is one, and the bytes that it spells.
+#![tactic(auto)]
+
 ghost use Rattle.std.specs.Prelude.{◌≡◌, true, ◌*◌, ◌≤◌, length};
 ghost use Rattle.model.specs.Frame.{hex_digit, line_bytes};
 ghost use Rattle.laws.specs.Area.{splice};
 ghost use Rattle.laws.specs.Present.{present};
-ghost use Rattle.hex.specs.Line.{value_of, decoded};
+ghost use Rattle.hex_lines.specs.Line.{value_of, decoded};
 
 // The most digits of a line.
 pub const DIGIT_LIMIT: usize = 8192;

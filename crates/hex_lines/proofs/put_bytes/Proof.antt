@@ -1,11 +1,11 @@
--- `hex::put_bytes` meets its contract: the bytes passed are written, and the digits left spell those to come.
+-- `hex_lines::put_bytes` meets its contract: the bytes passed are written, and the digits left spell those to come.
 use borrow.Author.Rules.{rules}
 use native.Mathlib.Omega.{arith}
 use Prim.Native.Nat.{◌-◌}
 use lib.ListN.{length}
-use Rattle.hex.proofs.Spelled.{Spelling, spelling-start, Pair, spelling-length, spelling-pair, spelling-more, spelling-done}
-use Rattle.hex.proofs.put_bytes.Statement.{statement}
-use Rattle.hex.proofs.put_bytes.Tie as tie
+use Rattle.hex_lines.proofs.Spelled.{Spelling, spelling-start, Pair, spelling-length, spelling-pair, spelling-more, spelling-done}
+use Rattle.hex_lines.proofs.put_bytes.Statement.{statement}
+use Rattle.hex_lines.proofs.put_bytes.Tie as tie
 
 abbrev invariant-loop : tie.invariant-loop
 invariant-loop digits bytes₀ i₀ j₀ bytes i j = Spelling digits bytes₀ bytes i j

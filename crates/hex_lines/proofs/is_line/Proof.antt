@@ -1,13 +1,13 @@
--- `hex::is_line` meets its contract: the digits left decide as the whole does.
+-- `hex_lines::is_line` meets its contract: the digits left decide as the whole does.
 use borrow.Author.Rules.{rules}
 use native.Mathlib.Omega.{arith}
 use mathlib.Core.Path.{sym, ap, ◌∙◌}
 use Prim.Native.Nat.{◌-◌}
 use lib.ListN.{length}
 use Rattle.laws.specs.Present.{present}
-use Rattle.hex.proofs.Lines.{no-digits, many-digits, as-pairs, odd-digits, Walk, walk_start, walk-room, no-high-digit, no-low-digit, walk_more, walk-done}
-use Rattle.hex.proofs.is_line.Statement.{statement}
-use Rattle.hex.proofs.is_line.Tie as tie
+use Rattle.hex_lines.proofs.Lines.{no-digits, many-digits, as-pairs, odd-digits, Walk, walk_start, walk-room, no-high-digit, no-low-digit, walk_more, walk-done}
+use Rattle.hex_lines.proofs.is_line.Statement.{statement}
+use Rattle.hex_lines.proofs.is_line.Tie as tie
 
 abbrev invariant-loop : tie.invariant-loop
 invariant-loop digits n i₀ i = Walk digits i
