@@ -1,27 +1,25 @@
 -- A table that grows by an entry: an entry is read from its own words alone, so that what is written behind the first k entries
 -- leaves them as they are, and is the next.
 use Prim.Native.Nat.{ℕ, zero, suc, ◌*◌, ◌+◌, ◌≤◌, ◌<◌}
-use mathlib.Core.Bool.{Bool, true, false, ◌&&◌}
+use mathlib.Core.Bool.{Bool, true, false}
 use mathlib.Core.List.{List, [], ◌∷◌}
-use mathlib.Core.Option.{Option, some}
+use mathlib.Core.Option.{some}
 use mathlib.Core.Path.{◌∙◌, ◌≡◌, ap, ap₂, refl, sym}
 use native.Mathlib.Nat.{add-zero, add-suc, suc-add, suc-mul, mul-le-mul_right}
 use native.Mathlib.Omega.{arith}
 use borrow.Author.Tests.{le-leb, leb-true}
 use lib.Dec.{leb}
 use lib.ListN.{get_or, length, take}
-use lib.Seq.{get_or-take, length-take-le}
-use Rattle.model.specs.Judged.{Judged, good}
+use lib.Seq.{get_or-take}
 use Rattle.model.specs.Limits.{child_limit}
 use Rattle.model.specs.Node.{Node, add_node}
 use Rattle.model.specs.Connect.{add_connection}
-use Rattle.model.specs.Tables.{node_at, node_entry, words_from, node_words, count_at, children_at, connection_entry, connection_of, why_of, connection_words, next_at, why_at, by_rule_at, forward_at, only_if}
-use Rattle.model.specs.declared.Connection.{Connection}
-use Rattle.laws.specs.Area.{part, splice}
-use Rattle.laws.proofs.Area.{length_part, part_at, length-splice, splice-before, part-written, same-part}
-use Rattle.laws.proofs.Judging.{entries-same, one_more}
+use Rattle.model.specs.Tables.{node_at, node_entry, words_from, node_words, count_at, children_at, connection_entry, connection_words, next_at, why_at, by_rule_at, forward_at, only_if}
+use Rattle.laws.specs.Area.{part}
+use Rattle.laws.proofs.Area.{length_part, part_at, same-part}
+use Rattle.laws.proofs.Judging.{entries-same}
 use Rattle.entries.specs.Connections.{connections_to}
-use Rattle.entries.specs.Nodes.{count_in, nodes_to}
+use Rattle.entries.specs.Nodes.{nodes_to}
 
 -- a run of words is read alike from two tables that have the same words there
 words-alike : (ws vs : List ℕ) (a b n : ℕ) → ((i : ℕ) → i < n → get_or ws (a + i) 0 ≡ get_or vs (b + i) 0) → words_from ws a n ≡ words_from vs b n

@@ -1,6 +1,5 @@
 -- A table of connections, as words: the age of each is its place. What stands in a table is read without a test here: judging has tested it.
-use Rattle.std.specs.Prelude.{ℕ, zero, suc, ◌*◌, ◌+◌, ◌<◌, Bool, ◌&&◌, false, true, List, [], ◌∷◌, ◌≡◌, get_or}
-use Rattle.std.proofs.Math.Option.{Option, none, some}
+use Rattle.std.specs.Prelude.{ℕ, zero, suc, ◌*◌, ◌+◌, ◌<◌, Bool, ◌&&◌, List, [], ◌∷◌, ◌≡◌, get_or}
 use Rattle.model.specs.Connect.{add_connection, pairs_joined}
 use Rattle.model.specs.Forest.{joined, root}
 use Rattle.model.specs.Judged.{Judged}

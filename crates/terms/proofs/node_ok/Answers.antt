@@ -9,8 +9,7 @@ use borrow.Author.Tests.{lt-leb, le-leb}
 use Rattle.model.specs.Limits.{child_limit}
 use Rattle.model.specs.Term.{mark_of}
 use Rattle.terms.specs.Place.{is_some}
-use Rattle.terms.proofs.node_ok.Statement.{statement}
-use Rattle.terms.proofs.node_ok.Tie as tie
+use Rattle.terms.proofs.node_ok.Goals as goal
 
 no-rule : (r : ℕ) → eqb r 0 ≡ is_some (mark_of 0 r)
 no-rule zero = refl
@@ -28,20 +27,10 @@ no-mark (suc zero) r h = absurd (omega arith)
 no-mark (suc (suc zero)) r h = absurd (omega arith)
 no-mark (suc (suc (suc m))) r h = refl
 
-returns : tie.Need-returns
-returns c = simp (lt-leb c.before.before.args.n.count child_limit (omega arith))
+pub returns-then-n-gt-CHILD_LIMIT : goal.returns-then-n-gt-CHILD_LIMIT
+returns-then-n-gt-CHILD_LIMIT c = simp (lt-leb c.args.n.count child_limit (omega arith))
 
-few : (c : tie.Else1) → leb c.before.before.args.n.count child_limit ≡ true
-few c = le-leb c.before.before.args.n.count child_limit (omega arith)
-
-returns-2 : tie.Need-returns-2
-returns-2 c = simp (few c.before.before, c.before.match.keys1) (no-rule c.before.before.before.before.args.n.rule.0)
-
-returns-3 : tie.Need-returns-3
-returns-3 c = simp (few c.before.before) (marked _ _ c.before.match.rest.1 c.if2.true)
-
-returns-4 : tie.Need-returns-4
-returns-4 c = simp (few c.before.before) (no-mark _ _ c.if2.false)
-
-pub node-ok-spec : {M : Type 1} → statement M
-node-ok-spec = tie.close (tie.spec returns returns-2 returns-3 returns-4)
+pub returns-in-0 : goal.returns-in-0
+returns-in-0 c =
+    let few : leb c.args.n.count child_limit ≡ true = le-leb c.args.n.count child_limit (omega arith) in
+    simp (few, c.in-0.is) (no-rule c.args.n.rule.0)
