@@ -1,5 +1,5 @@
 -- What a digit counts as, and the bytes that digits spell.
-use Rattle.std.specs.Prelude.{ℕ, Bool, true, false, List, []}
+use Rattle.std.specs.Prelude.{ℕ, List, []}
 use Rattle.std.proofs.Math.Option.{Option, none, some}
 use Rattle.model.specs.Frame.{hex_pairs}
 
