@@ -4,8 +4,8 @@ use borrow.Author.Rules.{rules}
 use mathlib.Core.Path.{sym, ap, ◌∙◌}
 use Rattle.model.specs.declared.Verdict.{Verdict}
 use Rattle.model.specs.Verdict.{report_of}
-use Rattle.explanation.proofs.erbighenti_check.Statement.{statement}
-use Rattle.explanation.proofs.erbighenti_check.Tie as tie
+use Rattle.explanation_c.proofs.erbighenti_check.Statement.{statement}
+use Rattle.explanation_c.proofs.erbighenti_check.Tie as tie
 
 check-requires : tie.Need-check-requires
 check-requires c κs = search rules

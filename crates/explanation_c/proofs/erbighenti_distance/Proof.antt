@@ -4,8 +4,8 @@ use borrow.Author.Rules.{rules}
 use mathlib.Core.Path.{sym, ap, ◌∙◌}
 use Rattle.model.specs.declared.Measured.{Measured}
 use Rattle.model.specs.Query.{measure_report}
-use Rattle.explanation.proofs.erbighenti_distance.Statement.{statement}
-use Rattle.explanation.proofs.erbighenti_distance.Tie as tie
+use Rattle.explanation_c.proofs.erbighenti_distance.Statement.{statement}
+use Rattle.explanation_c.proofs.erbighenti_distance.Tie as tie
 
 distance-requires : tie.Need-distance-requires
 distance-requires c κs = search rules

@@ -4,8 +4,8 @@ use borrow.Author.Rules.{rules}
 use mathlib.Core.Path.{sym, ap, ◌∙◌}
 use Rattle.model.specs.declared.Answer.{Answer}
 use Rattle.model.specs.Query.{answer_report}
-use Rattle.explanation.proofs.erbighenti_query.Statement.{statement}
-use Rattle.explanation.proofs.erbighenti_query.Tie as tie
+use Rattle.explanation_c.proofs.erbighenti_query.Statement.{statement}
+use Rattle.explanation_c.proofs.erbighenti_query.Tie as tie
 
 query-requires : tie.Need-query-requires
 query-requires c κs = search rules

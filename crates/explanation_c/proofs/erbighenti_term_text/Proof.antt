@@ -4,8 +4,8 @@ use borrow.Author.Rules.{rules}
 use mathlib.Core.Path.{sym, ap, ◌∙◌}
 use Rattle.model.specs.declared.Printed.{Printed}
 use Rattle.model.specs.Text.{text_report}
-use Rattle.explanation.proofs.erbighenti_term_text.Statement.{statement}
-use Rattle.explanation.proofs.erbighenti_term_text.Tie as tie
+use Rattle.explanation_c.proofs.erbighenti_term_text.Statement.{statement}
+use Rattle.explanation_c.proofs.erbighenti_term_text.Tie as tie
 
 term-text-requires : tie.Need-term-text-requires
 term-text-requires c κs = search rules
