@@ -7,8 +7,8 @@ ghost use Rattle.explain.specs.Reading.{stored, Ready, Rooms, Fits, Shown, Step}
 ghost use Rattle.explain.specs.Pieces.{PieceTaken, Ended, PieceRead, CameTo};
 
 use frames::{Counts, finish};
-use libc::{STDIN_FILENO, STDOUT_FILENO};
 use reader::{Advance, Place, read_on};
+use std::io::{self, Eprint, Input, Print, Read, Write};
 
 // What a run comes to: everything is answered and accepted, some query is refused or proof rejected, a refusal stopped it, or there
 // is trouble with the input or the output.
@@ -34,32 +34,39 @@ enum Reading {
     Ends(u8),
 }
 
+// Tells a failure of the input or the output on standard error. Where that fails too, nobody is left to tell.
+fn tell<R: Eprint>(rt: &R, what: &str, error: &io::Error) {
+    let _ = eprintln!(rt; "{what}: {error}");
+}
+
 // Prints the first bytes of the room. A failure is told on standard error.
-fn print(room: &[u8], count: usize) -> bool
+fn print<R: Print + Eprint>(rt: &R, room: &[u8], count: usize) -> bool
     requires { count ≤ length room.now }
 {
-    let done = io::write_all(STDOUT_FILENO, &room[..count]);
-    if !done {
-        os::fail(&[b'o', b'u', b't', b'p', b'u', b't']);
+    match io::writer(rt).write_all(&room[..count]) {
+        Ok(()) => true,
+        Err(error) => {
+            tell(rt, "output", &error);
+            false
+        }
     }
-    done
 }
 
 // Prints what reading on came to.
-fn show(advance: Advance, room: &[u8]) -> Stepped
+fn show<R: Print + Eprint>(rt: &R, advance: Advance, room: &[u8]) -> Stepped
     requires { Fits advance room.now }
     ensures { Shown advance result }
 {
     match advance {
         Advance::Goes(place, to, count) => {
-            if print(room, count) {
+            if print(rt, room, count) {
                 Stepped::Goes(place, to)
             } else {
                 Stepped::Ends(TROUBLE)
             }
         }
         Advance::Stops(count) => {
-            if print(room, count) {
+            if print(rt, room, count) {
                 Stepped::Ends(STOPPED)
             } else {
                 Stepped::Ends(TROUBLE)
@@ -69,7 +76,8 @@ fn show(advance: Advance, room: &[u8]) -> Stepped
 }
 
 // Reads on in a piece, and prints what that comes to.
-fn step(
+fn step<R: Print + Eprint>(
+    rt: &R,
     place: Place,
     piece: &[u8],
     from: usize,
@@ -90,11 +98,12 @@ fn step(
     let advance = read_on(
         place, piece, from, line, bytes, nodes, rules, conns, classes, area, room,
     );
-    show(advance, room)
+    show(rt, advance, room)
 }
 
 // Reads a piece to its end, or until the run is over.
-fn take_piece(
+fn take_piece<R: Print + Eprint>(
+    rt: &R,
     mut place: Place,
     piece: &[u8],
     line: &mut [u8],
@@ -112,7 +121,7 @@ fn take_piece(
     let mut from = 0;
     while from < piece.len() {
         match step(
-            place, piece, from, line, bytes, nodes, rules, conns, classes, area, room,
+            rt, place, piece, from, line, bytes, nodes, rules, conns, classes, area, room,
         ) {
             Stepped::Goes(next, to) => {
                 place = next;
@@ -125,13 +134,13 @@ fn take_piece(
 }
 
 // The end of the input: what is printed then, and what the run came to.
-fn end(place: Place, room: &mut [u8]) -> u8
+fn end<R: Print + Eprint>(rt: &R, place: Place, room: &mut [u8]) -> u8
     requires { length room.old ≡ text_room }
     ensures { Ended place result }
 {
     let counts = place.counts;
     let count = finish(counts, place.line, place.held, room);
-    if !print(room, count) {
+    if !print(rt, room, count) {
         return TROUBLE;
     }
     if count != 0 {
@@ -145,7 +154,8 @@ fn end(place: Place, room: &mut [u8]) -> u8
 }
 
 // One piece read from standard input and taken; the run is over where there is none.
-fn read_piece(
+fn read_piece<R: Input + Print + Eprint>(
+    rt: &R,
     place: Place,
     piece: &mut [u8],
     line: &mut [u8],
@@ -160,32 +170,32 @@ fn read_piece(
     requires { Ready place (stored nodes.old rules.old conns.old classes.old area.old) × Rooms line.old bytes.old nodes.old rules.old conns.old classes.old area.old room.old }
     ensures { PieceRead place (stored nodes.old rules.old conns.old classes.old area.old) line.old piece.new result (stored nodes.new rules.new conns.new classes.new area.new) line.new }
 {
-    let got = libc::read(STDIN_FILENO, piece);
-    if got < 0 {
-        os::fail(&[b'i', b'n', b'p', b'u', b't']);
-        return Reading::Ends(TROUBLE);
+    match rt.reader().read(piece) {
+        Err(error) => {
+            tell(rt, "input", &error);
+            Reading::Ends(TROUBLE)
+        }
+        Ok(0) => Reading::Ends(end(rt, place, room)),
+        Ok(n) => take_piece(
+            rt,
+            place,
+            &piece[..n],
+            line,
+            bytes,
+            nodes,
+            rules,
+            conns,
+            classes,
+            area,
+            room,
+        ),
     }
-    let n = io::count(got, piece);
-    if n == 0 {
-        return Reading::Ends(end(place, room));
-    }
-    take_piece(
-        place,
-        &piece[..n],
-        line,
-        bytes,
-        nodes,
-        rules,
-        conns,
-        classes,
-        area,
-        room,
-    )
 }
 
 // Reads standard input to its end. A proved loop has to end, and nothing says that the input does, so the loop counts its turns
 // down, from a number that no run uses up.
-pub fn read_all(
+pub fn read_all<R: Input + Print + Eprint>(
+    rt: &R,
     piece: &mut [u8],
     line: &mut [u8],
     bytes: &mut [u8],
@@ -203,7 +213,7 @@ pub fn read_all(
     let mut at = first();
     while turns > 0 {
         let reading = read_piece(
-            at, piece, line, bytes, nodes, rules, conns, classes, area, room,
+            rt, at, piece, line, bytes, nodes, rules, conns, classes, area, room,
         );
         match reading {
             Reading::Goes(next) => at = next,
