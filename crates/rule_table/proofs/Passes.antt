@@ -3,12 +3,10 @@
 use Prim.Native.Nat.{ℕ, ◌+◌, ◌*◌, ◌-◌, ◌≤◌, ◌<◌}
 use mathlib.Core.Bool.{Bool, true, false, ◌&&◌, ◌||◌}
 use mathlib.Core.List.{List}
-use mathlib.Core.Logic.{◌⊎◌, inl, inr}
 use mathlib.Core.Path.{◌≡◌, refl, ap, sym, ◌∙◌}
 use native.Mathlib.Decide.{ℕ_discrete}
 use native.Mathlib.Omega.{arith}
 use borrow.Author.Tests.{eq-eqb, ne_eqb}
-use denote.Enum.Declared.{tag_of}
 use lib.ListN.{length, get_or, set, replicate, length-set, length-replicate, get_or-replicate}
 use lib.Seq.{get_or-set_same, get_or-set_other}
 use Rattle.model.specs.Tables.{item_words}
@@ -16,7 +14,6 @@ use Rattle.model.specs.Limits.{variable_limit}
 use Rattle.rule_table.specs.declared.Slot.{Slot}
 use Rattle.rule_table.specs.declared.Slot.TheVariants.{Variable, Operator, Outside}
 use Rattle.rule_table.specs.Slots.{item_at, slot_of, holds, holds_from, Standing, known, known_from}
-use Rattle.rule_table.specs.contracts.Slot.{the_type}
 use Rattle.rule_table.proofs.Slots.{holds-turn, known-turn, variable-small}
 
 -- a slot that holds no variable
@@ -25,12 +22,11 @@ NoVariable (Variable x) = ⊥
 NoVariable (Operator o c) = Unit {0}
 NoVariable Outside = Unit {0}
 
--- a slot whose case is not the first one
-pub no-variable : (s : Slot) → (tag_of the_type s ≡ 1) ⊎ (tag_of the_type s ≡ 2) → NoVariable s
-no-variable (Variable x) (inl e) = omega arith
-no-variable (Variable x) (inr e) = omega arith
-no-variable (Operator o c) h = tt
-no-variable Outside h = tt
+-- a slot that is no variable's
+pub not-variable : (s : Slot) → ((x : ℕ) → s ≡ Variable x → ⊥) → NoVariable s
+not-variable (Variable x) h = absurd (h x refl)
+not-variable (Operator o c) h = tt
+not-variable Outside h = tt
 
 -- which variables stand in the slots: those marked, and those of the slots to come
 pub record Marking (ws : List ℕ) (at n : ℕ) (on : List Bool) (pos left : ℕ) : Type 0 where
@@ -75,6 +71,7 @@ module _ (ws : List ℕ) (at n : ℕ) (on : List Bool) (pos left : ℕ) (m : Mar
 
   no-mark : (s : Slot) → NoVariable s → slot_of (item_at ws pos) ≡ s → 0 < left → (x : ℕ) → x < variable_limit
       → get_or on x false || holds_from ws (pos + item_words) (left - 1) x ≡ holds_from ws at n x
+  no-mark (Variable _) f e h x k = elim f [ ]
   no-mark (Operator o c) f e h x k = slot_turn (Operator o c) e h x k
   no-mark Outside f e h x k = slot_turn Outside e h x k
 
@@ -111,6 +108,7 @@ module _ (ws : List ℕ) (at n : ℕ) (on : List Bool) (pos left : ℕ) (m : Che
 
   no-known : (s : Slot) → NoVariable s → slot_of (item_at ws pos) ≡ s → 0 < left
       → known_from on ws (pos + item_words) (left - 1) ≡ known_from on ws at n
+  no-known (Variable _) f e h = elim f [ ]
   no-known (Operator o c) f e h = known_slot (Operator o c) e h
   no-known Outside f e h = known_slot Outside e h
 

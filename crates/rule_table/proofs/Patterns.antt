@@ -237,13 +237,13 @@ pub stands-among : (x : ℕ) (q : Patterns) → stands x q ≡ among x (items q)
 unfolding stands among items
 stands-among x no_patterns = refl
 stands-among x (var y s) = rw (stands-among x s)
-stands-among x (app o k s) = rw (stands-among x k, stands-among x s, among-append)
+stands-among x (app o k s) = rw (stands-among x k, stands-among x s, among-append x (items k) (items s))
 
 pub bound_all : (l q : Patterns) → bound l q ≡ all (λ x. stands x l) (items q)
 unfolding bound all items
 bound_all l no_patterns = refl
 bound_all l (var y s) = rw (bound_all l s)
-bound_all l (app o k s) = rw (bound_all l k, bound_all l s, all_append)
+bound_all l (app o k s) = rw (bound_all l k, bound_all l s, all_append (λ x. stands x l) (items k) (items s))
 
 -- a row of patterns in front of another, and in front of what was read
 unfoldable pub join_p : Patterns → Patterns → Patterns

@@ -9,7 +9,7 @@ use borrow.Author.Tests.{lt-leb}
 use lib.ListN.{length, take, drop, length-take, length-drop}
 use Rattle.model.specs.declared.Judgement.{Judgement}
 use Rattle.model.specs.declared.Judgement.TheVariants.{Taken, Faulty}
-use Rattle.model.specs.Judged.{good, bad, judgement_of}
+use Rattle.model.specs.Judged.{good, judgement_of}
 use Rattle.model.specs.Rule.{Rule, add_rule}
 use Rattle.model.specs.Tables.{rule_words, rule_entry, entries, rule_table, entries_in}
 use Rattle.laws.proofs.Judging.{taken-good, faulty-bad, first-bad}

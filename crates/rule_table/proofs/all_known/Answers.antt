@@ -1,11 +1,10 @@
-use borrow.Author.Rules.{rules}
 use native.Mathlib.Omega.{arith}
 use mathlib.Core.Path.{refl, sym, ◌∙◌}
-use mathlib.Core.Logic.{⊎_elim}
 use borrow.Author.Tests.{not-true, not-false}
 use Rattle.rule_table.specs.Slots.{item_at}
 use Rattle.rule_table.proofs.Slots.{variable-small}
-use Rattle.rule_table.proofs.Passes.{no-variable, Checking, checking-known, checking-unknown, checking-other, checking-done}
+use Rattle.rule_table.proofs.Passes.{not-variable, checking-known, checking-unknown, checking-other, checking-done}
+use Rattle.rule_table.proofs.all_known.Goals.{in-Variable+else-not-on-x, in_default}
 use Rattle.rule_table.proofs.all_known.Goals as goal
 
 pub loop-left-init : goal.loop-left-init
@@ -25,10 +24,10 @@ pub loop-left-preserved : goal.loop-left-preserved
 loop-left-preserved c =
     let l = c.loop-left in
     let e = sym c.slot_at-slot.ensures in
-    ⊎_elim
-    (λ w. checking-known _ _ _ _ _ _ l.invariant _ (e ∙ w.1.given.1) (not-false _ w.3.left) (omega arith))
-    (λ w. checking-other _ _ _ _ _ _ l.invariant _ (no-variable c.slot_at-slot.result w.keys2) e (omega arith))
-    c.match-slot.branch
+    elim c.match-slot.branch [
+      | in-Variable+else-not-on-x w ↦ checking-known _ _ _ _ _ _ l.invariant _ (e ∙ w.in-Variable.is) (not-false _ w.if-not-on-x.false-raw) (omega arith)
+      | in_default w ↦ checking-other _ _ _ _ _ _ l.invariant _ (not-variable c.slot_at-slot.result w.in_default.not-Variable) e (omega arith)
+    ]
 
 pub returns : goal.returns
 returns c = checking-done _ _ _ _ _ _ c.loop-left.invariant (omega arith)

@@ -13,12 +13,11 @@ returns-then-number-rules c =
     ∙ c.loop-i.invariant.1
 
 pub loop-i-preserved : goal.loop-i-preserved
-loop-i-preserved c =
-    (
-      omega arith,
-      place-older c.args.rules.now c.loop-i.i c.args.number.0 (omega arith) c.if-number-rules.false
-          ∙ c.loop-i.invariant.1,
-    )
+loop-i-preserved c = (
+  omega arith,
+  place-older c.args.rules.now c.loop-i.i c.args.number.0 (omega arith) c.if-number-rules.false
+      ∙ c.loop-i.invariant.1,
+)
 
 pub returns : goal.returns
 returns c =

@@ -1,10 +1,9 @@
-use borrow.Author.Rules.{rules}
 use native.Mathlib.Omega.{arith}
 use mathlib.Core.Path.{sym, ◌∙◌}
-use mathlib.Core.Logic.{⊎_elim}
 use Rattle.rule_table.specs.Slots.{item_at}
 use Rattle.rule_table.proofs.Slots.{operator-small}
-use Rattle.rule_table.proofs.Sides.{side-long, Walk, walk_start, walk-over, walk-done, walk-variable, walk-operator, walk-outside}
+use Rattle.rule_table.proofs.Sides.{side-long, walk_start, walk-over, walk-done, walk-variable, walk-operator, walk-outside}
+use Rattle.rule_table.proofs.is_side.Goals.{in-Variable, in-Operator}
 use Rattle.rule_table.proofs.is_side.Goals as goal
 
 pub returns-then-items-gt-ITEM_LIMIT : goal.returns-then-items-gt-ITEM_LIMIT
@@ -28,3 +27,12 @@ returns-in-Outside c =
 
 pub returns : goal.returns
 returns c = walk-done _ _ _ _ _ _ c.loop-left.invariant (omega arith)
+
+pub loop-left-preserved : goal.loop-left-preserved
+loop-left-preserved c =
+    let l = c.loop-left in
+    let e = sym c.slot_at-slot.ensures in
+    elim c.match-slot.branch [
+      | in-Variable w ↦ rw w.pending-is (walk-variable _ _ _ _ _ _ l.invariant _ (e ∙ w.in-Variable.is) (omega arith) (omega arith))
+      | in-Operator w ↦ rw (w.pending-is, w.wide.ensures) (walk-operator _ _ _ _ _ _ l.invariant _ _ (e ∙ w.in-Operator.is) (omega arith) (omega arith))
+    ]

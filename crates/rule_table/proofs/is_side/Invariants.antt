@@ -1,12 +1,6 @@
 -- `rule_table::is_side` meets its contract. The loop's invariant is `Walk`: the walk from here goes on as the whole goes.
 -- Assumes nothing.
-use borrow.Author.Rules.{rules}
-use native.Mathlib.Omega.{arith}
-use mathlib.Core.Path.{sym, ◌∙◌}
-use mathlib.Core.Logic.{⊎_elim}
-use Rattle.rule_table.specs.Slots.{item_at}
-use Rattle.rule_table.proofs.Slots.{operator-small}
-use Rattle.rule_table.proofs.Sides.{side-long, Walk, walk_start, walk-over, walk-done, walk-variable, walk-operator, walk-outside}
+use Rattle.rule_table.proofs.Sides.{Walk}
 use Rattle.rule_table.proofs.is_side.Given as goal
 
 abbrev pub invariant-loop-left : goal.invariant-loop-left

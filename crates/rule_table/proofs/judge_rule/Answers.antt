@@ -1,7 +1,6 @@
 -- `rule_table::judge_rule` meets its contract, return by return: the tests go in the order of the numbers.
 -- Assumes nothing.
 use native.Mathlib.Omega.{arith}
-use borrow.Author.Rules.{rules}
 use borrow.Author.Tests.{not-true, not-false}
 use mathlib.Core.Path.{sym, ◌∙◌}
 use Rattle.rule_table.proofs.Judged.{TwoSides, few-left, few-right, judge-length, judge-left, judge-right, judge-many, judge-listed, judge-unbound, judge-taken}
@@ -40,7 +39,6 @@ returns-in-At c =
       left = sym (not-false _ c.if-not-is_side.false-raw) ∙ c.is_side.ensures;
       right = sym (not-false _ c.if-not-is_side-2.false-raw) ∙ c.is_side-2.ensures;
     } in
-   
     judge-listed _ c.requires _ (sides) (omega arith) _ (sym c.find_rule-found.ensures ∙ c.in-At.is)
 
 pub variables-on-requires : goal.variables-on-requires
@@ -68,7 +66,6 @@ returns-then-not-all_known c =
       left = sym (not-false _ c.if-not-is_side.false-raw) ∙ c.is_side.ensures;
       right = sym (not-false _ c.if-not-is_side-2.false-raw) ∙ c.is_side-2.ensures;
     } in
-   
     judge-unbound _ c.requires _ (sides) (omega arith)
     (sym c.find_rule-found.ensures ∙ c.in_default.is)
     _ c.variables-on.ensures (sym (not-true _ c.if-not-all_known.true-raw) ∙ c.all_known.ensures)
@@ -80,7 +77,6 @@ returns c =
       left = sym (not-false _ c.if-not-is_side.false-raw) ∙ c.is_side.ensures;
       right = sym (not-false _ c.if-not-is_side-2.false-raw) ∙ c.is_side-2.ensures;
     } in
-   
     judge-taken _ c.requires _ (sides) (omega arith)
     (sym c.find_rule-found.ensures ∙ c.in_default.is)
     _ c.variables-on.ensures (sym (not-false _ c.if-not-all_known.false-raw) ∙ c.all_known.ensures)

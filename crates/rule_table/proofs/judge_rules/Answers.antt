@@ -1,9 +1,7 @@
-use borrow.Author.Rules.{rules}
 use native.Mathlib.Omega.{arith}
-use Prim.Native.Nat.{◌-◌}
 use mathlib.Core.Path.{sym, ◌∙◌}
 use lib.ListN.{length-take}
-use Rattle.rule_table.proofs.Whole.{Judging, judging-start, judging-room, judging-accepted, judging-done, judging-next, judging-faulty}
+use Rattle.rule_table.proofs.Whole.{judging-start, judging-room, judging-accepted, judging-done, judging-next, judging-faulty}
 use Rattle.rule_table.proofs.judge_rules.Goals as goal
 
 pub loop-pos-init : goal.loop-pos-init

@@ -34,3 +34,8 @@ returns c =
     let at = a.i * rule_words + a.from in
     let e : at + side_words - at ≡ side_words = omega arith in
     ap (λ (n : ℕ). take n (drop at a.rules.now)) e
+
+pub slice_bounds-result-end : goal.slice_bounds-result-end
+slice_bounds-result-end c =
+    let entry : EntryIs c.args.rules.now c.args.i c.requires.has_rule.rule = entry-is c.args.rules.now c.args.i c.requires.has_rule.rule c.requires.has_rule.said in
+    omega (arith, entry.room, c.requires.side_words_bound)
