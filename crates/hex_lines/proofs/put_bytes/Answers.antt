@@ -18,14 +18,12 @@ bounds-digits-i-in-loop-i c =
 pub overflow_add-bytes : goal.overflow_add-bytes
 overflow_add-bytes c =
     let pair : Pair c.args.digits.now c.loop-i.invariant.front c.loop-i.i = spelling-pair c.requires.1 c.loop-i.invariant c.loop-i-test.true in
-   
     let p = pair in
     omega (arith, p.high, p.low, c.value.ensures, c.value-in-loop-i.ensures)
 
 pub bounds-bytes-j : goal.bounds-bytes-j
 bounds-bytes-j c =
     let pair : Pair c.args.digits.now c.loop-i.invariant.front c.loop-i.i = spelling-pair c.requires.1 c.loop-i.invariant c.loop-i-test.true in
-   
     omega (arith, (pair).room, c.requires.1, spelling-length c.requires.1 c.loop-i.invariant, c.loop-i.invariant.twice)
 
 pub overflow_add-i-in-loop-i : goal.overflow_add-i-in-loop-i

@@ -27,7 +27,6 @@ put_number-end-requires t c =
 pub bounds-room-end : goal.bounds-room-end
 bounds-room-end t c =
     let shorter : length (digits c.args.n) ≡ length (digits (c.args.n / 10)) + 1 = one-more-digit c.args.n (omega arith) (omega arith) in
-   
     omega (arith, c.put_number-end.auto.room, c.put_number-end.ensures.value, c.requires, shorter)
 
 pub overflow_add-result-2 : goal.overflow_add-result-2

@@ -22,6 +22,6 @@ shape_of-room c =
 
 pub returns : goal.returns
 returns c = record {
-      value = omega arith;
-      room_after = copying-all c.requires c.loop-i.invariant (omega arith);
-    }
+  value = omega arith;
+  room_after = copying-all c.requires c.loop-i.invariant (omega arith);
+}

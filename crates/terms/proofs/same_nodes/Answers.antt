@@ -21,7 +21,6 @@ returns-then-not-same_head c =
     → same_at c.args.words.now c.loop-left.a c.loop-left.b ≡ b = λ b e. let p = sym c.node_at-x.ensures in
     let q = sym c.node_at-y.ensures in
     (λ i. same_head (p i) (q i).op.0 (q i).count) ∙ sym c.same_head.ensures ∙ e in
-   
     let l = c.loop-left in
     let a = c.args in
     nodes-off a.words.now a.i a.j a.count l.a l.b l.left (omega arith) l.invariant (told _ (not-true _ c.if-not-same_head.true-raw))
@@ -38,7 +37,6 @@ loop-left-preserved c =
     → same_at c.args.words.now c.loop-left.a c.loop-left.b ≡ b = λ b e. let p = sym c.node_at-x.ensures in
     let q = sym c.node_at-y.ensures in
     (λ i. same_head (p i) (q i).op.0 (q i).count) ∙ sym c.same_head.ensures ∙ e in
-   
     let l = c.loop-left in
     let a = c.args in
     nodes-next a.words.now a.i a.j a.count l.a l.b l.left (omega arith) l.invariant (told _ (not-false _ c.if-not-same_head.false-raw))

@@ -32,7 +32,6 @@ returns-then-not-same_head c =
     → same_at c.args.words.now c.loop-pending.i c.loop-pending.j ≡ b = λ b e. let p = sym c.node_at-x.ensures in
     let q = sym c.node_at-y.ensures in
     (λ i. same_head (p i) (q i).op.0 (q i).count) ∙ sym c.same_head.ensures ∙ e in
-   
     let l = c.loop-pending in
     let a = c.args in
     same-off a.words.now a.a a.b l.i l.j l.pending (omega arith)
@@ -44,7 +43,6 @@ loop-pending-preserved c =
     → same_at c.args.words.now c.loop-pending.i c.loop-pending.j ≡ b = λ b e. let p = sym c.node_at-x.ensures in
     let q = sym c.node_at-y.ensures in
     (λ i. same_head (p i) (q i).op.0 (q i).count) ∙ sym c.same_head.ensures ∙ e in
-   
     let l = c.loop-pending in
     let a = c.args in
     let k : (node_of a.words.now l.i).count ≡ c.wide.result = ap (λ (x : TreeNode). x.count) (sym c.node_at-x.ensures) ∙ sym c.wide.ensures in
@@ -61,7 +59,6 @@ overflow_add-i c =
     let room : let l = c.loop-pending in let a = c.args in
     Room a.words.now a.a a.b l.i l.j l.pending = let l = c.loop-pending in
     same-room c.args.words.now c.args.a c.args.b l.i l.j l.pending l.invariant c.requires.well c.requires.well_2 in
-   
     omega (arith, (room).first (omega arith), c.well_formed.0)
 
 pub overflow_add-j : goal.overflow_add-j
@@ -69,7 +66,6 @@ overflow_add-j c =
     let room : let l = c.loop-pending in let a = c.args in
     Room a.words.now a.a a.b l.i l.j l.pending = let l = c.loop-pending in
     same-room c.args.words.now c.args.a c.args.b l.i l.j l.pending l.invariant c.requires.well c.requires.well_2 in
-   
     omega (arith, (room).second (omega arith), c.well_formed.0)
 
 pub loop-pending-smaller : goal.loop-pending-smaller

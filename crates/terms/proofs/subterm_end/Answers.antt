@@ -34,7 +34,6 @@ returns-then-not-node_ok c =
     let a = c.args in
     sym (turn a.words.now l.pos l.pending c.node_at-n.result b (omega arith) (omega arith) c.node_at-n.ensures (sym e ∙ c.node_ok.ensures))
     ∙ l.invariant.1.finds in
-   
     let a = c.args in
     end-go a.words.now a.at Broken (sym (turned false (not-true _ c.if-not-node_ok.true-raw)))
 
@@ -52,9 +51,7 @@ loop-pending-preserved c =
     let a = c.args in
     sym (turn a.words.now l.pos l.pending c.node_at-n.result b (omega arith) (omega arith) c.node_at-n.ensures (sym e ∙ c.node_ok.ensures))
     ∙ l.invariant.1.finds in
-    let few : c.node_at-n.result.count ≤ child_limit = ok-count c.node_at-n.result (sym c.node_ok.ensures ∙ not-false _ c.if-not-node_ok.false-raw) in
-   
-    (
+    let few : c.node_at-n.result.count ≤ child_limit = ok-count c.node_at-n.result (sym c.node_ok.ensures ∙ not-false _ c.if-not-node_ok.false-raw) in (
       c.loop-pending.invariant.0,
       record {
         inside = omega arith;

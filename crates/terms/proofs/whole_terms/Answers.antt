@@ -22,14 +22,12 @@ overflow_add-n c = omega (arith, c.well_formed.0)
 pub loop-pos-smaller : goal.loop-pos-smaller
 loop-pos-smaller c =
     let found : EndsAt c.args.words.now c.loop-pos.pos c.in-At.e = subst (EndIs c.args.words.now c.loop-pos.pos) c.in-At.is c.subterm_end-found.ensures in
-   
     let f = found in
     omega (arith, term-length _ _ _ f.term f.is, one-long f.term, f.is.within)
 
 pub loop-pos-preserved : goal.loop-pos-preserved
 loop-pos-preserved c =
     let found : EndsAt c.args.words.now c.loop-pos.pos c.in-At.e = subst (EndIs c.args.words.now c.loop-pos.pos) c.in-At.is c.subterm_end-found.ensures in
-   
     let l = c.loop-pos in
     let f = found in
     (l.invariant.0, whole-next c.args.words.now l.pos l.n c.in-At.e f.term f.is l.invariant.1)
