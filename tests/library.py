@@ -7,31 +7,30 @@ MEASURED = 16                    # added to one of them: how many bytes of stack
 
 
 def run(*command):
-    out = subprocess.run(command, cwd=TOP, capture_output=True, text=True)
+    out = subprocess.run(command, cwd=TOP, stdin=subprocess.DEVNULL, capture_output=True, text=True)
     if out.returncode:
         raise SystemExit(f'{command[0]} failed: {(out.stdout + out.stderr)[-800:]}')
     return out.stdout
 
 
 def archive():
-    """The archive's path. `rt staticlib` proves the library anew each time, so it is asked only where a source has changed since."""
+    """The archive's path. `rt lib` asks whether the library is proved, so it is called only where a source has changed since."""
     made, stamp = os.path.join(TOP, 'target', 'staticlib', 'libexplanation.a'), os.path.join(TOP, 'target', 'staticlib', 'sources')
-    names = sorted(os.path.join(folder, name) for folder, _, found in os.walk(os.path.join(TOP, 'crates')) for name in found)
+    names = sorted(os.path.join(folder, name) for folder, _, found in os.walk(os.path.join(TOP, 'crates')) for name in found if f'{os.sep}out{os.sep}' not in f'{folder}{os.sep}')
     sources = hashlib.sha256()
     for name in [os.path.join(TOP, 'crates.txt'), *names]:
         with open(name, 'rb') as file:
             sources.update(name.encode() + b'\0' + hashlib.sha256(file.read()).digest())
     said = sources.hexdigest() + run('rt', 'version')
     if not (os.path.exists(made) and os.path.exists(stamp) and open(stamp).read() == said):
-        run('rt', 'staticlib', 'explanation')
+        run('tools/archive')
         with open(stamp, 'w') as file:
             file.write(said)
     return made
 
 
 def toolchain():
-    home = os.path.dirname(os.path.dirname(run('rt', 'doc').strip()))
-    return os.path.join(home, 'on', platform.machine(), 'toolchain')
+    return os.path.join(os.path.dirname(run('rt', 'doc').strip()), 'toolchain')
 
 
 def put(made, *command):

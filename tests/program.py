@@ -2,14 +2,14 @@
 import os, subprocess, time
 from library import TOP, launched, run
 
-PROGRAM = os.path.join(TOP, 'target', 'bin', 'explain')
+PROGRAM = os.path.join(TOP, 'crates', 'explain', 'out', 'explain')
 COMMAND = launched(PROGRAM)
 SCRIPT = os.path.join(TOP, 'run')
 
 
 def build():
     """Proves and builds the program, if that is not done yet."""
-    run('rt', 'check', 'explain')
+    run('rt', 'run', 'explain')
 
 
 def printed(given):

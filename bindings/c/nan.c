@@ -2,7 +2,7 @@
    not 0. The program asks how the old alert became the new one, prints each term, and offers the answer to the strict checker with the
    release list's rules: it names the step by rule 7, which that list lacks.
 
-   Built with the library (`rt staticlib explanation` writes it):
+   Built with the library (`tools/archive` writes it):
 
        cc -Iinclude bindings/c/nan.c target/staticlib/libexplanation.a -o nan */
 #include <erbighenti.h>

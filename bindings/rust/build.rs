@@ -11,10 +11,10 @@ const VARIABLE: &str = "ERBIGHENTI_LIB_DIR";
 
 fn main() {
     println!("cargo:rerun-if-env-changed={VARIABLE}");
-    // the archive of `rt staticlib` is x86-64 code
+    // the archive of `tools/archive` is x86-64 code
     let proved_fits = env::var("CARGO_CFG_TARGET_ARCH").is_ok_and(|arch| arch == "x86_64");
     let (made_in, made_by) = if proved_fits {
-        ("../../target/staticlib", "`rt staticlib explanation`")
+        ("../../target/staticlib", "`tools/archive`")
     } else {
         ("../../target/native", "`bindings/rust/native` (the proved archive is x86-64 code; this builds the same module for this machine)")
     };
