@@ -1,5 +1,5 @@
 -- What the text of words is by what they say: no terms, no reading, one term that fits the room or not, several terms.
-use Prim.Native.Nat.{ℕ, ◌+◌, ◌-◌, ◌≤◌}
+use Prim.Native.Nat.{ℕ, ◌-◌, ◌≤◌}
 use native.Mathlib.Omega.{arith}
 use mathlib.Core.Path.{◌≡◌, refl, sym, ap, ap₂, subst, ◌∙◌}
 use mathlib.Core.Bool.{Bool, true, false}
@@ -11,7 +11,7 @@ use lib.ListN.{length, take, replicate}
 use lib.Seq.{take_at}
 use Rattle.model.specs.declared.Printed.{Printed}
 use Rattle.model.specs.declared.Printed.TheVariants.{Bytes, NoText}
-use Rattle.model.specs.Term.{Terms, no_terms, tree, Term, one, count, Reads, read}
+use Rattle.model.specs.Term.{Terms, no_terms, tree, one, count, Reads, read}
 use Rattle.model.specs.Text.{text, printed_if, printed, term_text, room_by, room_after}
 use Rattle.terms.specs.declared.WholeTerms.TheVariants.{Count, Broken}
 use Rattle.terms.specs.Whole.{whole_of}
