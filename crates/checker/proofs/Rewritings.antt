@@ -4,7 +4,6 @@ use Prim.Native.Nat.{ℕ, suc, ◌≤◌}
 use mathlib.Core.List.{List, [], ◌∷◌}
 use mathlib.Core.Logic.{◌↔◌}
 use mathlib.Core.Path.{◌≡◌, refl, sym, ◌∙◌, ap, ap₂, subst}
-use native.Mathlib.Omega.{arith}
 use lib.ListN.{length}
 use Rattle.model.specs.declared.Verdict.TheVariants.{Accepted}
 use Rattle.model.specs.Limits.{term_limit, word_limit}
