@@ -1,13 +1,12 @@
 -- The table of classes: where there is no connection, behind one more, and what it tells of joined nodes, of parents and of support.
-use Prim.Native.Nat.{ℕ, zero, suc, ◌+◌, ◌*◌, ◌/◌, ◌≤◌, ◌<◌}
-use mathlib.Core.Bool.{Bool, true, false, cond, ◌&&◌}
-use mathlib.Core.List.{List, [], ◌∷◌, ◌++◌, map}
+use Prim.Native.Nat.{ℕ, zero, suc, ◌+◌, ◌*◌, ◌<◌}
+use mathlib.Core.Bool.{Bool, false, ◌&&◌}
+use mathlib.Core.List.{List, [], ◌∷◌, map}
 use mathlib.Core.Path.{◌≡◌, refl, sym, ap, ap₂, ◌∙◌}
 use native.Mathlib.Omega.{arith}
 use native.Mathlib.Decide.{ℕ_discrete}
 use native.Mathlib.Nat.{add-zero}
-use lib.Dec.{eqb}
-use lib.ListN.{length, get_or, length-append, length-map, get_or-append, get_or-map}
+use lib.ListN.{length, get_or, length-append, length-map, get_or-append}
 use lib.Seq.{get_or_at}
 use Rattle.model.specs.declared.Connection.{Connection}
 use Rattle.model.specs.Term.{same_op}
@@ -17,7 +16,7 @@ use Rattle.model.specs.Tables.{words_from, node_words, children_at}
 use Rattle.paths.specs.Hangs.{Forest}
 use Rattle.paths.proofs.Laws.{root-top}
 use Rattle.paths.proofs.Count.{root-free}
-use Rattle.entries.specs.Nodes.{NodesStand, child_in, count_in, children_in}
+use Rattle.entries.specs.Nodes.{NodesStand, count_in}
 use Rattle.entries.specs.Connections.{support_in}
 use Rattle.connections.specs.Classes.{up_to, renamed, classes_joined, same_class, support_by, Classes}
 

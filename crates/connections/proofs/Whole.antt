@@ -1,7 +1,7 @@
 -- A table of connections judged in the order of age, with the classes of those that were accepted.
 use Prim.Native.Nat.{ℕ, suc, ◌+◌, ◌*◌, ◌-◌, ◌/◌, ◌≤◌, ◌<◌}
 use mathlib.Core.List.{List, []}
-use mathlib.Core.Path.{◌≡◌, refl, sym, ap, ◌∙◌}
+use mathlib.Core.Path.{◌≡◌, refl, ap, ◌∙◌}
 use native.Mathlib.Omega.{arith}
 use native.Mathlib.Nat.{le-div_iff_mul-le, div-eq_of_lt-le}
 use native.Mathlib.Numerals.{add-one}

@@ -10,13 +10,13 @@ use lib.Dec.{leb}
 use lib.ListN.{length, get_or}
 use Rattle.model.specs.declared.Connection.{Connection}
 use Rattle.model.specs.Limits.{node_limit, child_limit}
-use Rattle.model.specs.Judged.{Judged, good, bad, refuse_if}
+use Rattle.model.specs.Judged.{Judged, good, bad}
 use Rattle.model.specs.Node.{Node, no_node, all_below, add_node}
 use Rattle.model.specs.Forest.{cur, nxt}
 use Rattle.model.specs.Connect.{misplaced, supported, add_connection}
 use Rattle.model.specs.Rule.{Rule}
 use Rattle.model.specs.Query.{Tables}
-use Rattle.model.specs.Tables.{rule_table, judge_tables, only_if, words_from, node_at, node_entry, connection_entry, and_add, entries, node_table, connection_table}
+use Rattle.model.specs.Tables.{rule_table, judge_tables, only_if, words_from, node_at, node_entry, connection_entry, node_table, connection_table}
 use Rattle.laws.proofs.Judging.{never-good, taken, entries-keep}
 use Rattle.paths.specs.Hangs.{AcceptedConnections}
 use Rattle.flat.specs.Nodes.{AcceptedNodes}

@@ -1,6 +1,6 @@
 -- Twins: what the support of a congruence says of its two nodes.
 use Prim.Native.Nat.{ℕ}
-use mathlib.Core.Path.{◌≡◌, refl, sym}
+use mathlib.Core.Path.{◌≡◌, sym}
 use mathlib.Core.Bool.{true, and-eq-true_iff}
 use mathlib.Core.List.{List, [], ◌∷◌}
 use borrow.Author.Tests.{eqb-true}

@@ -10,7 +10,7 @@ use borrow.Author.Tests.{eq-eqb, ne_eqb}
 use lib.ListN.{length}
 use Rattle.model.specs.declared.Connection.{Connection}
 use Rattle.model.specs.Node.{Node}
-use Rattle.model.specs.Forest.{cur, nxt, top, below, parent_of}
+use Rattle.model.specs.Forest.{cur, nxt, below, parent_of}
 use Rattle.paths.specs.Hangs.{next_of, depth, Forest, AcceptedConnections}
 use Rattle.paths.proofs.Accept.{accepted-forest}
 use Rattle.paths.proofs.Places.{high, low, place, next-below}

@@ -16,7 +16,6 @@ use Rattle.paths.specs.Hangs.{depth, Forest, AcceptedConnections}
 use Rattle.paths.proofs.Joined.{dist-self}
 use Rattle.paths.proofs.Bound.{depth_le}
 use Rattle.paths.proofs.Accept.{accepted-forest}
-use Rattle.paths.proofs.Places.{high, low}
 use Rattle.paths.proofs.Ways.{climb_by, depth-climb, Lowest, hop-low, ups, Meets, meets}
 use Rattle.flat.specs.Nodes.{AcceptedNodes}
 use Rattle.rust.specs.Explain.{Explain}

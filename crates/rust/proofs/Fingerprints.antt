@@ -2,7 +2,7 @@
 -- two connections, so that what was kept is what would be made.
 use mathlib.Core.Path.{◌≡◌, refl, sym, ap, ◌∙◌}
 use mathlib.Core.Bool.{Bool, true, false}
-use mathlib.Core.List.{List, ◌∷◌, Memᴰ}
+use mathlib.Core.List.{List, [], ◌∷◌, Memᴰ}
 use Rattle.model.specs.declared.Connection.{Connection as TableConnection}
 use Rattle.model.specs.Forest.{cur, nxt, root, by}
 use Rattle.paths.specs.Hangs.{Loose}
@@ -39,6 +39,7 @@ ends cs p e = ap (λ (x : TableConnection). root cs (cur x)) (sym p) ∙ e ∙ a
 -- THE PAIR OF NODES DETERMINES THE CONNECTION, as it is walked
 pub fingerprint : (cs : List TableConnection) → Loose cs → (c d : TableConnection) (u v : Bool) → Memᴰ c cs → Memᴰ d cs →
     (as_walked_by c u).current ≡ (as_walked_by d v).current → (as_walked_by c u).next ≡ (as_walked_by d v).next → as_walked_by c u ≡ as_walked_by d v
+fingerprint [] n c d u v x5 _ e g = elim x5 [ ]
 fingerprint (x ∷ cs) n c d u v (Memᴰ.head p) (Memᴰ.head q) e g =
     let r : c ≡ d = p ∙ sym q in
     same_way c u v cs (λ z. n.0 (ends cs p z)) (e ∙ ap (λ (y : TableConnection). (as_walked_by y v).current) (sym r))

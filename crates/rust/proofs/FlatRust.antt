@@ -26,7 +26,7 @@ use Rattle.rust.specs.Explain.{Connection, Explain}
 use Rattle.rust.specs.Flatten.{Trees, no_trees, tree_term, flatten_proof}
 use Rattle.rust.specs.Trees.{TreeTerm, before, explain_adjacent, explain_all, explain_enodes}
 use Rattle.rust.proofs.Vectors.{on, off}
-use Rattle.rust.specs.Read.{up, as_walked}
+use Rattle.rust.specs.Read.{as_walked}
 use Rattle.rust.proofs.Built.{Holds}
 use Rattle.rust.proofs.Behind.{Behind, all, older, accepted-behind, root-behind, walk-behind}
 use Rattle.rust.proofs.MemoRust.{optimized, no-optimized}

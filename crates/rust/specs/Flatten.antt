@@ -2,7 +2,7 @@
 -- antt has no trees over lists of trees: a `Vec` of terms is a row, first child and next sibling, as in the model.
 use Rattle.std.specs.Prelude.{ℕ, zero, suc, Bool, true, false, cond, ◌||◌, List, [], ◌∷◌, eqb}
 use Rattle.std.proofs.Math.Option.{Option, none, some}
-use Rattle.rust.specs.Panics.{◌>>=◌, ◌>>◌}
+use Rattle.rust.specs.Panics.{◌>>=◌}
 
 -- type TreeExplanation, a `Vec` of `TreeTerm`s (operator, backward_rule, forward_rule, child_proofs), and child_proofs, a `Vec` of these
 mutual

@@ -1,0 +1,28 @@
+use native.Mathlib.Omega.{arith}
+use Prim.Native.Nat.{ℕ}
+use mathlib.Core.Path.{ap, ap₂, sym, ◌∙◌}
+use lib.ListN.{get_or}
+use Rattle.laws.proofs.Stored.{stored-none, stored_next, stored-all}
+use Rattle.connections.specs.Classes.{renamed}
+use Rattle.connections.proofs.Classes.{joined_length, joined_at}
+use Rattle.connections.proofs.join.Goals as goal
+
+pub loop-i-init : goal.loop-i-init
+loop-i-init c = stored-none _
+
+pub loop-i-preserved : goal.loop-i-preserved
+loop-i-preserved c = let l = c.loop-i in
+    stored_next l.invariant c.loop-i-test.true (c.rename.ensures ∙ ap (renamed _ _) (l.invariant.rest l.i (omega arith)))
+
+pub shape_of-classes : goal.shape_of-classes
+shape_of-classes c = c.loop-i.invariant.long
+
+pub returns : goal.returns
+returns c =
+    let ws = c.args.classes.now in
+    let a = c.args.a.0 in
+    let b = c.args.b.0 in
+    stored-all c.loop-i.invariant c.loop-i-test.false _ (joined_length ws a b)
+    (λ k h.
+    joined_at ws a b k h
+    ∙ ap₂ (λ (x y : ℕ). renamed x y (get_or ws k 0)) (sym c.class_of-from.ensures) (sym c.class_of-to.ensures))

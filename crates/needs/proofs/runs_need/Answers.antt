@@ -1,0 +1,202 @@
+use native.Mathlib.Omega.{arith}
+use native.Mathlib.Nat.{mul-le-mul}
+use Prim.Native.Nat.{ℕ, suc, ◌+◌, ◌*◌, ◌<◌, ◌≤◌}
+use mathlib.Core.List.{List}
+use mathlib.Core.Path.{◌≡◌, ap, ap₂, ◌∙◌}
+use lib.ListN.{get_or}
+use Rattle.model.specs.declared.Connection.{Connection}
+use Rattle.model.specs.Limits.{child_limit}
+use Rattle.model.specs.Tables.{children_at, node_words, words_from}
+use Rattle.model.specs.Flat.{sum}
+use Rattle.entries.specs.Nodes.{child_in, children_in, count_in}
+use Rattle.entries.proofs.Children.{left}
+use Rattle.forest.specs.Rows.{Climbs}
+use Rattle.costs.specs.Costs.{nodes_in, weigh}
+use Rattle.costs.proofs.Payable.{pair-joins}
+use Rattle.trees.specs.Sizes.{held_nodes, node_cap, table_bound}
+use Rattle.trees.proofs.Filled.{drop-words}
+use Rattle.needs.specs.Needs.{Comes, path_nodes, runs_by}
+use Rattle.needs.proofs.Runs.{Runs, runs_done, runs-next, runs_none}
+use Rattle.needs.proofs.runs_need.Goals as goal
+
+abbrev roomy : ℕ
+roomy = suc (child_limit * table_bound) + child_limit * table_bound
+
+pub count_of-n-requires : goal.count_of-n-requires
+count_of-n-requires c = c.requires.left-known.room
+
+pub loop-i-init : goal.loop-i-init
+loop-i-init c = (c.count_of-n.ensures, λ cs k. runs_none _ _ _ _ _ _ _)
+
+pub child_of-x-requires : goal.child_of-x-requires
+child_of-x-requires c =
+    let more : let a = c.args in
+    c.loop-i.i < count_in a.nodes.now a.a.0 = omega (arith, c.loop-i.invariant.0) in
+    let few : c.loop-i.i < child_limit = omega (arith, more, c.requires.left-known.narrow) in
+    (c.requires.left-known.room, few)
+
+pub child_of-y-requires : goal.child_of-y-requires
+child_of-y-requires c =
+    let more : let a = c.args in
+    c.loop-i.i < count_in a.nodes.now a.a.0 = omega (arith, c.loop-i.invariant.0) in
+    let few : c.loop-i.i < child_limit = omega (arith, more, c.requires.left-known.narrow) in
+    (c.requires.right-known.room, few)
+
+pub path_need-run-requires : goal.path_need-run-requires
+path_need-run-requires c =
+    let more : let a = c.args in
+    c.loop-i.i < count_in a.nodes.now a.a.0 = omega (arith, c.loop-i.invariant.0) in
+    pair-joins c.requires (more) c.child_of-x.ensures c.child_of-y.ensures
+
+pub overflow_add-i : goal.overflow_add-i
+overflow_add-i c =
+    let more : let a = c.args in
+    c.loop-i.i < count_in a.nodes.now a.a.0 = omega (arith, c.loop-i.invariant.0) in
+    let few : c.loop-i.i < child_limit = omega (arith, more, c.requires.left-known.narrow) in
+    omega (arith, few)
+
+pub sizes_from-requires : goal.sizes_from-requires
+sizes_from-requires c = c.requires.left-known
+
+pub overflow_add-around : goal.overflow_add-around
+overflow_add-around c =
+    let runs : let a = c.args in
+    Runs (λ k. get_or a.sizes.now k 0) (weigh a.rows.now c.requires.conns) (path_nodes a.ups.now a.downs.now c.requires.conns) a.nodes.now
+    (a.a.0 * node_words + children_at) (a.b.0 * node_words + children_at) (count_in a.nodes.now a.a.0) c.loop-i.i c.loop-i.before c.loop-i.sum = c.loop-i.invariant.1 c.requires.conns c.requires.charged.climbs in
+    let more : let a = c.args in
+    c.loop-i.i < count_in a.nodes.now a.a.0 = omega (arith, c.loop-i.invariant.0) in
+    let few : c.loop-i.i < child_limit = omega (arith, more, c.requires.left-known.narrow) in
+    let around-small : c.loop-i.before + c.sizes_from.result ≤ roomy = omega (arith, c.sizes_from.ensures.1, (runs).low, few) in
+    omega (arith, around-small)
+
+pub overflow_add-sum : goal.overflow_add-sum
+overflow_add-sum c =
+    let runs : let a = c.args in
+    Runs (λ k. get_or a.sizes.now k 0) (weigh a.rows.now c.requires.conns) (path_nodes a.ups.now a.downs.now c.requires.conns) a.nodes.now
+    (a.a.0 * node_words + children_at) (a.b.0 * node_words + children_at) (count_in a.nodes.now a.a.0) c.loop-i.i c.loop-i.before c.loop-i.sum = c.loop-i.invariant.1 c.requires.conns c.requires.charged.climbs in
+    let more : let a = c.args in
+    c.loop-i.i < count_in a.nodes.now a.a.0 = omega (arith, c.loop-i.invariant.0) in
+    let pair : let a = c.args in
+    let x = child_in a.nodes.now a.a.0 c.loop-i.i in
+    let y = child_in a.nodes.now a.b.0 c.loop-i.i in
+    (cs : List Connection) → Climbs cs (nodes_in a.nodes.now) a.rows.now →
+    Comes c.path_need-run.result (weigh a.rows.now cs x y) (path_nodes a.ups.now a.downs.now cs x y) = λ cs k.
+    let i = c.loop-i.i in
+    let r = c.path_need-run.ensures cs _ k (omega (arith, c.child_of-x.ensures, c.requires.left_in i (more))) (omega (arith, c.child_of-y.ensures, c.requires.right-in i (more))) in
+    record {
+      cost = r.cost ∙ ap held_nodes (ap₂ (weigh c.args.rows.now cs) c.child_of-x.ensures c.child_of-y.ensures);
+      nodes = r.nodes ∙ ap held_nodes (ap₂ (path_nodes c.args.ups.now c.args.downs.now cs) c.child_of-x.ensures c.child_of-y.ensures);
+    } in
+    let pair_small : (c.path_need-run.result.cost ≤ node_cap) × (c.path_need-run.result.nodes ≤ node_cap) = let r = pair c.requires.conns c.requires.charged.climbs in
+    (omega (arith, r.cost), omega (arith, r.nodes)) in
+    omega (arith, (pair_small).1, (runs).small)
+
+pub overflow_mul-run : goal.overflow_mul-run
+overflow_mul-run c =
+    let runs : let a = c.args in
+    Runs (λ k. get_or a.sizes.now k 0) (weigh a.rows.now c.requires.conns) (path_nodes a.ups.now a.downs.now c.requires.conns) a.nodes.now
+    (a.a.0 * node_words + children_at) (a.b.0 * node_words + children_at) (count_in a.nodes.now a.a.0) c.loop-i.i c.loop-i.before c.loop-i.sum = c.loop-i.invariant.1 c.requires.conns c.requires.charged.climbs in
+    let more : let a = c.args in
+    c.loop-i.i < count_in a.nodes.now a.a.0 = omega (arith, c.loop-i.invariant.0) in
+    let few : c.loop-i.i < child_limit = omega (arith, more, c.requires.left-known.narrow) in
+    let around-small : c.loop-i.before + c.sizes_from.result ≤ roomy = omega (arith, c.sizes_from.ensures.1, (runs).low, few) in
+    let pair : let a = c.args in
+    let x = child_in a.nodes.now a.a.0 c.loop-i.i in
+    let y = child_in a.nodes.now a.b.0 c.loop-i.i in
+    (cs : List Connection) → Climbs cs (nodes_in a.nodes.now) a.rows.now →
+    Comes c.path_need-run.result (weigh a.rows.now cs x y) (path_nodes a.ups.now a.downs.now cs x y) = λ cs k.
+    let i = c.loop-i.i in
+    let r = c.path_need-run.ensures cs _ k (omega (arith, c.child_of-x.ensures, c.requires.left_in i (more))) (omega (arith, c.child_of-y.ensures, c.requires.right-in i (more))) in
+    record {
+      cost = r.cost ∙ ap held_nodes (ap₂ (weigh c.args.rows.now cs) c.child_of-x.ensures c.child_of-y.ensures);
+      nodes = r.nodes ∙ ap held_nodes (ap₂ (path_nodes c.args.ups.now c.args.downs.now cs) c.child_of-x.ensures c.child_of-y.ensures);
+    } in
+    let pair_small : (c.path_need-run.result.cost ≤ node_cap) × (c.path_need-run.result.nodes ≤ node_cap) = let r = pair c.requires.conns c.requires.charged.climbs in
+    (omega (arith, r.cost), omega (arith, r.nodes)) in
+    let product : c.path_need-run.result.cost * (c.loop-i.before + c.sizes_from.result) ≤ node_cap * roomy = mul-le-mul (pair_small).0 (around-small) in
+    omega (arith, product)
+
+pub overflow_add-sum-in-loop-i : goal.overflow_add-sum-in-loop-i
+overflow_add-sum-in-loop-i c =
+    let runs : let a = c.args in
+    Runs (λ k. get_or a.sizes.now k 0) (weigh a.rows.now c.requires.conns) (path_nodes a.ups.now a.downs.now c.requires.conns) a.nodes.now
+    (a.a.0 * node_words + children_at) (a.b.0 * node_words + children_at) (count_in a.nodes.now a.a.0) c.loop-i.i c.loop-i.before c.loop-i.sum = c.loop-i.invariant.1 c.requires.conns c.requires.charged.climbs in
+    let more : let a = c.args in
+    c.loop-i.i < count_in a.nodes.now a.a.0 = omega (arith, c.loop-i.invariant.0) in
+    let pair : let a = c.args in
+    let x = child_in a.nodes.now a.a.0 c.loop-i.i in
+    let y = child_in a.nodes.now a.b.0 c.loop-i.i in
+    (cs : List Connection) → Climbs cs (nodes_in a.nodes.now) a.rows.now →
+    Comes c.path_need-run.result (weigh a.rows.now cs x y) (path_nodes a.ups.now a.downs.now cs x y) = λ cs k.
+    let i = c.loop-i.i in
+    let r = c.path_need-run.ensures cs _ k (omega (arith, c.child_of-x.ensures, c.requires.left_in i (more))) (omega (arith, c.child_of-y.ensures, c.requires.right-in i (more))) in
+    record {
+      cost = r.cost ∙ ap held_nodes (ap₂ (weigh c.args.rows.now cs) c.child_of-x.ensures c.child_of-y.ensures);
+      nodes = r.nodes ∙ ap held_nodes (ap₂ (path_nodes c.args.ups.now c.args.downs.now cs) c.child_of-x.ensures c.child_of-y.ensures);
+    } in
+    let pair_small : (c.path_need-run.result.cost ≤ node_cap) × (c.path_need-run.result.nodes ≤ node_cap) = let r = pair c.requires.conns c.requires.charged.climbs in
+    (omega (arith, r.cost), omega (arith, r.nodes)) in
+    let few : c.loop-i.i < child_limit = omega (arith, more, c.requires.left-known.narrow) in
+    let around-small : c.loop-i.before + c.sizes_from.result ≤ roomy = omega (arith, c.sizes_from.ensures.1, (runs).low, few) in
+    let product : c.path_need-run.result.cost * (c.loop-i.before + c.sizes_from.result) ≤ node_cap * roomy = mul-le-mul (pair_small).0 (around-small) in
+    omega (arith, product, (pair_small).1, (runs).small)
+
+pub size_of-before-requires : goal.size_of-before-requires
+size_of-before-requires c =
+    let more : let a = c.args in
+    c.loop-i.i < count_in a.nodes.now a.a.0 = omega (arith, c.loop-i.invariant.0) in
+    omega (arith, c.child_of-y.ensures, c.requires.right-in c.loop-i.i (more), c.requires.charged.climbs.rooted.few)
+
+pub overflow_add-before : goal.overflow_add-before
+overflow_add-before c =
+    let runs : let a = c.args in
+    Runs (λ k. get_or a.sizes.now k 0) (weigh a.rows.now c.requires.conns) (path_nodes a.ups.now a.downs.now c.requires.conns) a.nodes.now
+    (a.a.0 * node_words + children_at) (a.b.0 * node_words + children_at) (count_in a.nodes.now a.a.0) c.loop-i.i c.loop-i.before c.loop-i.sum = c.loop-i.invariant.1 c.requires.conns c.requires.charged.climbs in
+    let more : let a = c.args in
+    c.loop-i.i < count_in a.nodes.now a.a.0 = omega (arith, c.loop-i.invariant.0) in
+    let few : c.loop-i.i < child_limit = omega (arith, more, c.requires.left-known.narrow) in
+    omega (arith, (runs).low, few, c.size_of-before.ensures.1)
+
+pub overflow_add-i-in-loop-i : goal.overflow_add-i-in-loop-i
+overflow_add-i-in-loop-i c =
+    let more : let a = c.args in
+    c.loop-i.i < count_in a.nodes.now a.a.0 = omega (arith, c.loop-i.invariant.0) in
+    let few : c.loop-i.i < child_limit = omega (arith, more, c.requires.left-known.narrow) in
+    omega (arith, few)
+
+pub loop-i-preserved : goal.loop-i-preserved
+loop-i-preserved c =
+    let more : let a = c.args in
+    c.loop-i.i < count_in a.nodes.now a.a.0 = omega (arith, c.loop-i.invariant.0) in
+    let pair : let a = c.args in
+    let x = child_in a.nodes.now a.a.0 c.loop-i.i in
+    let y = child_in a.nodes.now a.b.0 c.loop-i.i in
+    (cs : List Connection) → Climbs cs (nodes_in a.nodes.now) a.rows.now →
+    Comes c.path_need-run.result (weigh a.rows.now cs x y) (path_nodes a.ups.now a.downs.now cs x y) = λ cs k.
+    let i = c.loop-i.i in
+    let r = c.path_need-run.ensures cs _ k (omega (arith, c.child_of-x.ensures, c.requires.left_in i (more))) (omega (arith, c.child_of-y.ensures, c.requires.right-in i (more))) in
+    record {
+      cost = r.cost ∙ ap held_nodes (ap₂ (weigh c.args.rows.now cs) c.child_of-x.ensures c.child_of-y.ensures);
+      nodes = r.nodes ∙ ap held_nodes (ap₂ (path_nodes c.args.ups.now c.args.downs.now cs) c.child_of-x.ensures c.child_of-y.ensures);
+    } in
+    let around : let a = c.args in
+    c.loop-i.before + c.sizes_from.result ≡
+    c.loop-i.before
+    + sum (λ k. get_or a.sizes.now k 0) (left a.nodes.now (a.a.0 * node_words + children_at) (count_in a.nodes.now a.a.0) (c.loop-i.i + 1)) = let a = c.args in
+    ap (λ (k : ℕ). c.loop-i.before + k)
+    (c.sizes_from.ensures.0 ∙ ap (sum (λ k. get_or a.sizes.now k 0)) (drop-words a.nodes.now (a.a.0 * node_words + children_at) _ (c.loop-i.i + 1))) in
+    let a = c.args in (
+      c.loop-i.invariant.0,
+      λ cs k. runs-next (c.loop-i.invariant.1 cs k) _ _ _ _ _ (more) (pair cs k).cost (pair cs k).nodes (around)
+          (c.size_of-before.ensures.0 ∙ ap (λ (z : ℕ). get_or a.sizes.now z 0) c.child_of-y.ensures) c.size_of-before.ensures.1 c.held-sum.ensures,
+    )
+
+pub returns : goal.returns
+returns c = λ cs k.
+    let a = c.args in
+    runs_done (c.loop-i.invariant.1 cs k) (omega arith)
+    ∙ ap
+    (λ (x : ℕ).
+    held_nodes (runs_by (λ k. get_or a.sizes.now k 0) (weigh a.rows.now cs) (path_nodes a.ups.now a.downs.now cs) 1
+    (children_in a.nodes.now a.a.0) (words_from a.nodes.now (a.b.0 * node_words + children_at) x)))
+    c.requires.even

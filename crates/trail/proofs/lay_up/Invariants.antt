@@ -1,0 +1,23 @@
+-- `trail::lay_up` meets its contract: what is laid and what is left make the whole climb.
+use Prim.Native.Nat.{ℕ, ◌+◌, ◌<◌}
+use mathlib.Core.List.{List, reverse}
+use mathlib.Core.Path.{◌≡◌}
+use lib.ListN.{length}
+use Rattle.model.specs.declared.Connection.{Connection}
+use Rattle.forest.specs.Rows.{Climbs, depth_in}
+use Rattle.costs.specs.Costs.{Above}
+use Rattle.laws.specs.Area.{splice}
+use Rattle.trail.proofs.Laying.{Climb}
+use Rattle.trail.proofs.lay_up.Given as goal
+
+-- what was passed lies on the trail, last to first, from `start` on
+abbrev pub Laid : List ℕ → ℕ → List ℕ → ℕ → List ℕ → Type 0
+Laid old top new start done = (new ≡ splice old start (reverse done)) × (start + length done ≡ top)
+
+abbrev pub invariant-loop-at : goal.invariant-loop-at
+invariant-loop-at l =
+    (cs : List Connection) (n : ℕ) → Climbs cs n l.rows → l.initial.at.0 < n → Above cs l.initial.at.0 l.to.0 →
+    Climb l.rows cs n l.initial.at.0 l.to.0 l.at.0 (Laid l.initial.trail l.top l.trail l.start)
+
+abbrev pub decreases-loop-at : goal.decreases-loop-at
+decreases-loop-at l = depth_in l.rows l.at.0
