@@ -6,15 +6,12 @@ use mathlib.Core.Path.{◌≡◌, refl, sym, ap, ap₂, ◌∙◌}
 use native.Mathlib.Omega.{arith}
 use lib.ListN.{length, get_or, set, drop, length-append, length-drop, drop_of_length-le}
 use lib.Seq.{get_or-drop, drop-drop}
-use Rattle.model.specs.declared.NodeNo.{NodeNo}
 use Rattle.model.specs.Limits.{flat_words}
 use Rattle.model.specs.Frame.{two, query_frame, four_front, sixes, words_frame}
 use Rattle.laws.specs.Area.{splice}
 use Rattle.laws.proofs.Area.{length-splice, splice-none, splice_all, splice-more, splice-node}
 use Rattle.rule_table.proofs.Patterns.{none-some}
-use Rattle.decode.specs.declared.Pair.{Pair}
 use Rattle.decode.specs.declared.Pair.TheVariants.{Nodes, Wrong as no_pair}
-use Rattle.decode.specs.declared.Offered.{Offered}
 use Rattle.decode.specs.declared.Offered.TheVariants.{Words, Wrong as no_words}
 use Rattle.decode.specs.Asked.{pair_of, offered_of, six_words, Holds}
 

@@ -1,9 +1,9 @@
 -- A connection's frame has eight bytes, and what it says is decided by the last three fields.
 use Prim.Native.Nat.{ℕ, zero, suc}
-use mathlib.Core.Bool.{Bool, true, false}
+use mathlib.Core.Bool.{true, false}
 use mathlib.Core.List.{List, [], ◌∷◌}
 use mathlib.Core.Option.{Option, none, some}
-use mathlib.Core.Path.{◌≡◌, refl, sym, ap, ◌∙◌}
+use mathlib.Core.Path.{◌≡◌, refl, sym, ◌∙◌}
 use native.Mathlib.Omega.{arith}
 use lib.Dec.{eqb, leb}
 use borrow.Author.Tests.{eq-eqb, ne_eqb, le-leb, lt-leb}
@@ -11,7 +11,7 @@ use lib.ListN.{length, get_or, set}
 use Rattle.model.specs.declared.Justification.{Justification}
 use Rattle.model.specs.Tables.{connection_words, next_at, why_at, by_rule_at, forward_at, why_of, connection_of}
 use Rattle.model.specs.Frame.{two, connection_frame}
-use Rattle.layouts.specs.Words.{words_of_why, words_of_connection}
+use Rattle.layouts.specs.Words.{words_of_connection}
 use Rattle.laws.specs.Present.{present}
 use Rattle.decode.specs.Slot.{slot_by}
 

@@ -1,6 +1,6 @@
 -- A side of a rule's frame, item by item: how many items it has and where they end.
 use Prim.Native.Nat.{ℕ, zero, suc, ◌+◌, ◌*◌, ◌-◌, ◌≤◌, ◌<◌}
-use mathlib.Core.List.{List, [], ◌∷◌, ◌++◌, append_assoc, append-nil}
+use mathlib.Core.List.{List, [], ◌∷◌, ◌++◌, append_assoc}
 use mathlib.Core.Option.{Option, none, some}
 use mathlib.Core.Path.{◌≡◌, refl, sym, ap, ap₂, subst, ◌∙◌}
 use native.Mathlib.Omega.{arith}
@@ -11,7 +11,7 @@ use Rattle.model.specs.Pattern.{Item}
 use Rattle.decode.specs.declared.sides.Part.{Part}
 use Rattle.decode.specs.declared.sides.Side.TheVariants.{Items, Wrong}
 use Rattle.decode.specs.Sides.{part_of, item_of, Found, longer, found, side_found, side_of}
-use Rattle.decode.proofs.Parts.{Sound, sound}
+use Rattle.decode.proofs.Parts.{sound}
 
 -- one turn of the walk, and its ends
 pub found_turn : (k p : ℕ) (l : List ℕ) → 0 < k → 0 < p →

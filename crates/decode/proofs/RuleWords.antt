@@ -1,16 +1,16 @@
 -- A rule's frame decided by its two sides, and its words.
-use Prim.Native.Nat.{ℕ, zero, suc, ◌+◌, ◌*◌, ◌-◌, ◌≤◌, ◌<◌}
-use mathlib.Core.Bool.{true, false}
+use Prim.Native.Nat.{ℕ, zero, suc, ◌+◌, ◌-◌, ◌≤◌, ◌<◌}
+use mathlib.Core.Bool.{true}
 use mathlib.Core.List.{List, [], ◌∷◌, ◌++◌, append_assoc, append-nil}
 use mathlib.Core.Option.{Option, none, some}
-use mathlib.Core.Path.{◌≡◌, refl, sym, ap, ap₂, subst, ◌∙◌}
+use mathlib.Core.Path.{◌≡◌, refl, sym, ap, ap₂, ◌∙◌}
 use native.Mathlib.Omega.{arith}
 use lib.ListN.{length, get_or, set, drop, replicate, length-append, length-drop, length-replicate, replicate-append-replicate, drop_of_length-le}
 use lib.Seq.{drop-drop}
 use Rattle.model.specs.Limits.{item_limit}
-use Rattle.model.specs.Pattern.{Item, variable, operator, Patterns, items}
+use Rattle.model.specs.Pattern.{Item, variable, operator, Patterns}
 use Rattle.model.specs.Rule.{Rule, side, rule_of}
-use Rattle.model.specs.Tables.{item_words, side_words, left_at, right_at, rule_words}
+use Rattle.model.specs.Tables.{side_words, left_at, right_at, rule_words}
 use Rattle.model.specs.Frame.{two, frame_items, rule_items, rule_frame}
 use Rattle.laws.specs.Area.{splice}
 use Rattle.laws.proofs.Area.{splice-middle}
@@ -19,12 +19,11 @@ use Rattle.layouts.proofs.Back.{slots_length, padded-length}
 use Rattle.rule_table.proofs.Patterns.{none-some}
 use Rattle.rule_table.proofs.Sides.{first-item}
 use Rattle.rule_table.proofs.Frames.{frame-sides, Split, frame-split}
-use Rattle.decode.specs.declared.sides.Side.{Side}
 use Rattle.decode.specs.declared.sides.Side.TheVariants.{Items, Wrong}
 use Rattle.laws.specs.Present.{present}
 use Rattle.decode.specs.Slot.{slot_by}
-use Rattle.decode.specs.Sides.{Found, found, side_found, side_of, items_of, HasItems, TwoSides, rule_slot}
-use Rattle.decode.proofs.Rules.{Is, found-is, Finds, finds, ASide, a-side, side-scan}
+use Rattle.decode.specs.Sides.{Found, found, side_found, side_of, items_of, TwoSides, rule_slot}
+use Rattle.decode.proofs.Rules.{found-is, finds, a-side, side-scan}
 
 -- The words written over zeros: the head, then each side's.
 heads : (m n l r : ℕ) → set (set (set (replicate (suc (suc (suc m))) 0) 0 n) 1 l) 2 r ≡ n ∷ l ∷ r ∷ replicate m 0

@@ -1,9 +1,9 @@
 -- A rule's frame and the walk over its sides: the walk finds two sides, the second up to the end, just where the frame says a rule.
-use Prim.Native.Nat.{ℕ, zero, suc, ◌+◌, ◌*◌, ◌-◌, ◌≤◌, ◌<◌}
+use Prim.Native.Nat.{ℕ, zero, suc, ◌+◌, ◌-◌, ◌≤◌}
 use mathlib.Core.Bool.{Bool, true, false, ◌&&◌}
-use mathlib.Core.List.{List, [], ◌∷◌, ◌++◌, append-nil}
+use mathlib.Core.List.{List, [], ◌∷◌, ◌++◌}
 use mathlib.Core.Option.{Option, none, some}
-use mathlib.Core.Path.{◌≡◌, refl, sym, ap, ap₂, subst, ◌∙◌}
+use mathlib.Core.Path.{◌≡◌, refl, sym, ap, subst, ◌∙◌}
 use native.Mathlib.Omega.{arith}
 use native.Mathlib.Nat.{add_comm}
 use borrow.Author.Tests.{eq-eqb, eqb-true, le-leb, leb-true}
@@ -12,15 +12,14 @@ use lib.ListN.{length, drop, length-drop}
 use lib.Seq.{drop-drop}
 use Rattle.model.specs.Limits.{child_limit, item_limit, variable_limit}
 use Rattle.model.specs.Pattern.{Item, variable, operator, Patterns, count_p, items, read_p}
-use Rattle.model.specs.Rule.{Rule, side_if, one_pattern, side, rule_of}
+use Rattle.model.specs.Rule.{side_if, one_pattern, side}
 use Rattle.model.specs.Tables.{item_front}
-use Rattle.model.specs.Frame.{two, frame_items, rule_items, rule_frame}
+use Rattle.model.specs.Frame.{two, frame_items}
 use Rattle.rule_table.proofs.Patterns.{none-some, item_ok, arity, scan, is_row, scan-read, read-items}
-use Rattle.rule_table.proofs.Frames.{frame-sides, Split, frame-split}
 use Rattle.rule_table.proofs.Sides.{first-item}
 use Rattle.decode.specs.declared.sides.Part.{Part}
 use Rattle.decode.specs.Sides.{part_if, part_of, item_of, Found, longer, found}
-use Rattle.decode.proofs.Parts.{Sound, sound}
+use Rattle.decode.proofs.Parts.{sound}
 use Rattle.decode.proofs.Found.{found-done}
 
 both : (a b : Bool) → a && b ≡ true → (a ≡ true) × (b ≡ true)

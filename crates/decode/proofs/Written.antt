@@ -1,12 +1,12 @@
 -- The second pass over a side: the words of its items written, one item after another; and a slot cleared.
-use Prim.Native.Nat.{ℕ, zero, suc, ◌+◌, ◌*◌, ◌-◌, ◌≤◌, ◌<◌}
+use Prim.Native.Nat.{ℕ, ◌+◌, ◌*◌, ◌-◌, ◌≤◌, ◌<◌}
 use mathlib.Core.List.{List, [], ◌∷◌, ◌++◌, append-nil}
 use mathlib.Core.Option.{Option, none, some}
 use mathlib.Core.Path.{◌≡◌, refl, sym, ap, ap₂, subst, ◌∙◌}
 use native.Mathlib.Omega.{arith}
 use native.Mathlib.Decide.{ℕ_discrete}
-use lib.ListN.{length, get_or, set, drop, replicate, length-append, length-replicate, get_or-replicate}
-use Rattle.model.specs.Limits.{child_limit, item_limit}
+use lib.ListN.{length, set, drop, replicate, length-append, length-replicate, get_or-replicate}
+use Rattle.model.specs.Limits.{item_limit}
 use Rattle.model.specs.Pattern.{Item}
 use Rattle.model.specs.Tables.{item_words}
 use Rattle.laws.specs.Area.{splice}

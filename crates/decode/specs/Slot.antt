@@ -1,5 +1,5 @@
 -- What a slot of a table holds once a frame was read into it: the entry's words, or what it held.
-use Rattle.std.specs.Prelude.{ℕ, Bool, true, false, List}
+use Rattle.std.specs.Prelude.{ℕ, List}
 use Rattle.std.proofs.Math.Option.{Option, none, some}
 
 module _ {A : Type 0} where

@@ -1,16 +1,15 @@
 -- A connection written behind those that were accepted: they stay as they are, and it is the next.
 use Prim.Native.Nat.{ℕ, suc, ◌+◌, ◌*◌, ◌-◌, ◌/◌, ◌≤◌}
 use mathlib.Core.List.{List, []}
-use mathlib.Core.Option.{Option, none, some}
+use mathlib.Core.Option.{Option, some}
 use mathlib.Core.Path.{◌≡◌, refl, sym, ap, subst, ◌∙◌}
 use native.Mathlib.Omega.{arith}
 use borrow.Rule.Slice.PartMut.{mid_of, put_mid}
 use lib.ListN.{length, take}
 use Rattle.model.specs.declared.Connection.{Connection}
-use Rattle.model.specs.declared.Judgement.TheVariants.{Taken, Faulty}
 use Rattle.model.specs.declared.Justification.{Justification}
 use Rattle.model.specs.declared.Justification.TheVariants.{Rule as by_rule, Congruence}
-use Rattle.model.specs.Judged.{Judged, good, judgement_of}
+use Rattle.model.specs.Judged.{good}
 use Rattle.model.specs.Connect.{add_connection}
 use Rattle.model.specs.Tables.{connection_entry, node_words, connection_words}
 use Rattle.laws.specs.Area.{splice, part}

@@ -2,10 +2,10 @@
 use Prim.Native.Nat.{ℕ, suc, ◌+◌, ◌*◌, ◌-◌, ◌≤◌}
 use mathlib.Core.List.{List, []}
 use mathlib.Core.Path.{◌≡◌, refl, sym, ap, ◌∙◌}
-use mathlib.Core.Option.{Option, some}
+use mathlib.Core.Option.{some}
 use native.Mathlib.Omega.{arith}
 use borrow.Rule.Slice.PartMut.{mid_of, put_mid}
-use lib.ListN.{length, take}
+use lib.ListN.{length}
 use Rattle.model.specs.Judged.{good}
 use Rattle.model.specs.Node.{Node, add_node}
 use Rattle.model.specs.Frame.{node_frame}

@@ -5,7 +5,7 @@ use mathlib.Core.Option.{Option, none, some}
 use mathlib.Core.Path.{◌≡◌, refl, sym, ap, ◌∙◌}
 use native.Mathlib.Omega.{arith}
 use Rattle.model.specs.declared.Judgement.{Judgement}
-use Rattle.model.specs.declared.Judgement.TheVariants.{Taken, Faulty}
+use Rattle.model.specs.declared.Judgement.TheVariants.{Faulty}
 use Rattle.model.specs.Judged.{Judged, bad, judgement_of}
 use Rattle.laws.specs.Present.{present}
 use Rattle.tables.specs.Grown.{Grown}
