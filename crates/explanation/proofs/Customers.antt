@@ -17,7 +17,7 @@ use Rattle.model.specs.declared.Measured.{Measured}
 use Rattle.model.specs.declared.Printed.{Printed}
 use Rattle.model.specs.declared.Verdict.{Verdict}
 use Rattle.model.specs.declared.Verdict.TheVariants.{Accepted, Rejected}
-use Rattle.model.specs.Judged.{Judged, good, bad}
+use Rattle.model.specs.Judged.{good, bad}
 use Rattle.model.specs.Premise.{Premise}
 use Rattle.model.specs.Query.{Tables, distance_in, proof_words}
 use Rattle.model.specs.Book.{Rewriting}

@@ -1,6 +1,5 @@
 -- No second outcome fits: two results, and two values left with the caller, that meet a public contract of this crate for the same
 -- arguments are equal. Entry points ask nothing of their arguments, so this holds for any words.
-use Prim.Native.Nat.{ℕ}
 use mathlib.Core.List.{[]}
 use mathlib.Core.Path.{◌≡◌, refl, sym, ◌∙◌}
 use contract.Lifetimes.{Lfts}

@@ -1,6 +1,6 @@
 -- The text of a term: each number exactly where its condition is the first to hold, and what the room then holds.
 -- Assumes nothing.
-use Prim.Native.Nat.{ℕ, ◌-◌, ◌≤◌, ◌<◌}
+use Prim.Native.Nat.{ℕ, ◌-◌, ◌≤◌}
 use native.Mathlib.Omega.{arith}
 use mathlib.Core.Bool.{Bool, true, false}
 use mathlib.Core.List.{List, [], ◌++◌}
@@ -12,7 +12,7 @@ use lib.Dec.{ltb}
 use lib.ListN.{length, replicate, length-append, length-replicate}
 use Rattle.model.specs.declared.Printed.{Printed}
 use Rattle.model.specs.declared.Printed.TheVariants.{Bytes, NoText}
-use Rattle.model.specs.Term.{Terms, no_terms, tree, Term, one, count, words, Reads, read}
+use Rattle.model.specs.Term.{Terms, no_terms, tree, one, count, words, read}
 use Rattle.model.specs.Text.{text, printed_if, printed, term_text, room_by, room_after}
 use Rattle.terms.proofs.Read.{read-words, reads-read, reads-once}
 use Rattle.text.proofs.Printed.{room-refused}

@@ -3,10 +3,12 @@
 use Prim.Native.Nat.{ℕ, ◌+◌, ◌*◌, ◌-◌, ◌≤◌, ◌<◌}
 use mathlib.Core.Bool.{Bool, true, false, ◌&&◌, ◌||◌}
 use mathlib.Core.List.{List}
+use mathlib.Core.Logic.{◌⊎◌, inl, inr}
 use mathlib.Core.Path.{◌≡◌, refl, ap, sym, ◌∙◌}
 use native.Mathlib.Decide.{ℕ_discrete}
 use native.Mathlib.Omega.{arith}
 use borrow.Author.Tests.{eq-eqb, ne_eqb}
+use denote.Enum.Declared.{tag_of}
 use lib.ListN.{length, get_or, set, replicate, length-set, length-replicate, get_or-replicate}
 use lib.Seq.{get_or-set_same, get_or-set_other}
 use Rattle.model.specs.Tables.{item_words}
@@ -14,6 +16,7 @@ use Rattle.model.specs.Limits.{variable_limit}
 use Rattle.rule_table.specs.declared.Slot.{Slot}
 use Rattle.rule_table.specs.declared.Slot.TheVariants.{Variable, Operator, Outside}
 use Rattle.rule_table.specs.Slots.{item_at, slot_of, holds, holds_from, Standing, known, known_from}
+use Rattle.rule_table.specs.contracts.Slot.{the_type}
 use Rattle.rule_table.proofs.Slots.{holds-turn, known-turn, variable-small}
 
 -- a slot that holds no variable
@@ -21,6 +24,13 @@ abbrev pub NoVariable : Slot → Type 0
 NoVariable (Variable x) = ⊥
 NoVariable (Operator o c) = Unit {0}
 NoVariable Outside = Unit {0}
+
+-- a slot whose case is not the first one
+pub no-variable : (s : Slot) → (tag_of the_type s ≡ 1) ⊎ (tag_of the_type s ≡ 2) → NoVariable s
+no-variable (Variable x) (inl e) = omega arith
+no-variable (Variable x) (inr e) = omega arith
+no-variable (Operator o c) h = tt
+no-variable Outside h = tt
 
 -- a slot that is no variable's
 pub not-variable : (s : Slot) → ((x : ℕ) → s ≡ Variable x → ⊥) → NoVariable s

@@ -1,0 +1,131 @@
+-- `explanation::measure` meets its contract: 8, 9, 10, each where it is the first to hold; else the distance, with rows to climb by.
+-- Assumes nothing.
+use borrow.Author.Tests.{not-true, not-false}
+use native.Mathlib.Omega.{arith}
+use Prim.Native.Nat.{ℕ, ◌/◌, ◌≤◌, ◌<◌}
+use mathlib.Core.Bool.{true}
+use mathlib.Core.List.{List}
+use mathlib.Core.Path.{◌≡◌, sym, ap, subst, ◌∙◌}
+use lib.ListN.{length}
+use Rattle.model.specs.declared.Measured.TheVariants.{Distance}
+use Rattle.model.specs.Limits.{distance_limit}
+use Rattle.model.specs.Forest.{joined, dist}
+use Rattle.model.specs.Query.{Tables}
+use Rattle.model.specs.Tables.{node_words}
+use Rattle.entries.specs.Nodes.{nodes_of}
+use Rattle.entries.proofs.Nodes.{length-nodes}
+use Rattle.paths.proofs.Joined.{joined-root}
+use Rattle.forest.specs.Rows.{connections_of}
+use Rattle.forest.proofs.Rooted.{rooted}
+use Rattle.costs.specs.Costs.{Charged, Between}
+use Rattle.costs.proofs.Payable.{charged-full}
+use Rattle.explanation.proofs.Measures.{no-left, no-right, apart, long, near, ways}
+use Rattle.explanation.proofs.measure.Goals as goal
+
+-- how many nodes there are
+many : (nws : List ℕ) (t : Tables) → t.nodes ≡ nodes_of nws → length t.nodes ≡ length nws / node_words
+many nws t e = ap length e ∙ length-nodes (length nws / node_words) nws
+
+pub returns-then-n-wide : goal.returns-then-n-wide
+returns-then-n-wide c =
+    let a = c.args in record {
+      measures = λ t ns cs. no-left t a.left.0 a.right.0 (omega (arith, many a.nodes.now t ns, c.wide.ensures));
+      routed = tt;
+    }
+
+pub returns-then-n-wide-2 : goal.returns-then-n-wide-2
+returns-then-n-wide-2 c =
+    let a = c.args in record {
+      measures = λ t ns cs.
+          let m = many a.nodes.now t ns in
+          no-right t a.left.0 a.right.0 (omega (arith, m, c.wide.ensures)) (omega (arith, m, c.wide-2.ensures));
+      routed = tt;
+    }
+
+pub fill_rows-requires : goal.fill_rows-requires
+fill_rows-requires c = (rooted c.requires.supported, c.requires.rows_len)
+
+-- both nodes are in the table
+record Inside (n l r : ℕ) : Type 0 where
+  left : l < n
+  right : r < n
+
+pub joined-requires : goal.joined-requires
+joined-requires c =
+    let inside : let a = c.args in Inside (length a.nodes.now / node_words) a.left.0 a.right.0 = record { left = omega (arith, c.wide.ensures); right = omega (arith, c.wide-2.ensures) } in
+    let charged : let a = c.args in
+    Charged (connections_of a.connections.now) (length a.nodes.now / node_words) c.fill_rows.new.rows = charged-full _ (rooted c.requires.supported) c.requires.rows_len c.fill_rows.ensures in
+    let b = inside in
+    record { conns = _; nodes = _; climbs = (charged).climbs; left_in = b.left; right-in = b.right }
+
+pub returns-then-not-joined : goal.returns-then-not-joined
+returns-then-not-joined c =
+    let inside : let a = c.args in Inside (length a.nodes.now / node_words) a.left.0 a.right.0 = record { left = omega (arith, c.wide.ensures); right = omega (arith, c.wide-2.ensures) } in
+    let charged : let a = c.args in
+    Charged (connections_of a.connections.now) (length a.nodes.now / node_words) c.fill_rows.new.rows = charged-full _ (rooted c.requires.supported) c.requires.rows_len c.fill_rows.ensures in
+    let told : let a = c.args in
+    c.joined.result ≡ joined (connections_of a.connections.now) a.left.0 a.right.0 = let b = inside in
+    c.joined.ensures _ _ (charged).climbs b.left b.right in
+    let a = c.args in record {
+      measures = λ t ns cs.
+          let m = many a.nodes.now t ns in
+          apart t a.left.0 a.right.0 (omega (arith, m, (inside).left)) (omega (arith, m, (inside).right))
+          (rw cs (sym (told) ∙ not-true _ c.if-not-joined.true-raw));
+      routed = tt;
+    }
+
+pub distance-d-requires : goal.distance-d-requires
+distance-d-requires c =
+    let charged : let a = c.args in
+    Charged (connections_of a.connections.now) (length a.nodes.now / node_words) c.fill_rows.new.rows = charged-full _ (rooted c.requires.supported) c.requires.rows_len c.fill_rows.ensures in
+    let inside : let a = c.args in Inside (length a.nodes.now / node_words) a.left.0 a.right.0 = record { left = omega (arith, c.wide.ensures); right = omega (arith, c.wide-2.ensures) } in
+    let told : let a = c.args in
+    c.joined.result ≡ joined (connections_of a.connections.now) a.left.0 a.right.0 = let b = inside in
+    c.joined.ensures _ _ (charged).climbs b.left b.right in
+    let same : let a = c.args in
+    joined (connections_of a.connections.now) a.left.0 a.right.0 ≡ true = sym (told) ∙ not-false _ c.if-not-joined.false-raw in
+    let between : let a = c.args in
+    Between a.nodes.now a.connections.now a.left.0 a.right.0 = let b = inside in
+    record { left_in = b.left; right-in = b.right; same = joined-root _ _ _ (same) } in record { supported = c.requires.supported; charged = charged; between = between }
+
+pub returns-then-d-gt-DISTANCE_LIMIT : goal.returns-then-d-gt-DISTANCE_LIMIT
+returns-then-d-gt-DISTANCE_LIMIT c =
+    let inside : let a = c.args in Inside (length a.nodes.now / node_words) a.left.0 a.right.0 = record { left = omega (arith, c.wide.ensures); right = omega (arith, c.wide-2.ensures) } in
+    let charged : let a = c.args in
+    Charged (connections_of a.connections.now) (length a.nodes.now / node_words) c.fill_rows.new.rows = charged-full _ (rooted c.requires.supported) c.requires.rows_len c.fill_rows.ensures in
+    let told : let a = c.args in
+    c.joined.result ≡ joined (connections_of a.connections.now) a.left.0 a.right.0 = let b = inside in
+    c.joined.ensures _ _ (charged).climbs b.left b.right in
+    let same : let a = c.args in
+    joined (connections_of a.connections.now) a.left.0 a.right.0 ≡ true = sym (told) ∙ not-false _ c.if-not-joined.false-raw in
+    let a = c.args in record {
+      measures = λ t ns cs.
+          let m = many a.nodes.now t ns in
+          long t a.left.0 a.right.0 (omega (arith, m, (inside).left)) (omega (arith, m, (inside).right)) (rw cs (same))
+          (rw (ns, cs) (omega (arith, c.distance-d.ensures.value)));
+      routed = tt;
+    }
+
+pub returns : goal.returns
+returns c =
+    let inside : let a = c.args in Inside (length a.nodes.now / node_words) a.left.0 a.right.0 = record { left = omega (arith, c.wide.ensures); right = omega (arith, c.wide-2.ensures) } in
+    let charged : let a = c.args in
+    Charged (connections_of a.connections.now) (length a.nodes.now / node_words) c.fill_rows.new.rows = charged-full _ (rooted c.requires.supported) c.requires.rows_len c.fill_rows.ensures in
+    let told : let a = c.args in
+    c.joined.result ≡ joined (connections_of a.connections.now) a.left.0 a.right.0 = let b = inside in
+    c.joined.ensures _ _ (charged).climbs b.left b.right in
+    let same : let a = c.args in
+    joined (connections_of a.connections.now) a.left.0 a.right.0 ≡ true = sym (told) ∙ not-false _ c.if-not-joined.false-raw in
+    let between : let a = c.args in
+    Between a.nodes.now a.connections.now a.left.0 a.right.0 = let b = inside in
+    record { left_in = b.left; right-in = b.right; same = joined-root _ _ _ (same) } in
+    let a = c.args in record {
+      measures = λ t ns cs.
+          let m = many a.nodes.now t ns in
+          let d : c.distance-d.result ≡ dist t.nodes t.conns a.left.0 a.right.0 =
+          rw (ns, cs) (omega (arith, c.distance-d.ensures.value)) in
+          ap Distance d
+          ∙ near t a.left.0 a.right.0 (omega (arith, m, (inside).left)) (omega (arith, m, (inside).right)) (rw cs (same))
+          (subst (λ (x : ℕ). x ≤ distance_limit) d c.if-d-gt-DISTANCE_LIMIT.false);
+      routed = ways c.requires.supported (between) (omega (arith, c.distance-d.ensures.value)) (charged) c.distance-d.ensures.rows_after;
+    }
