@@ -1,14 +1,14 @@
 -- A frame of a connection: refused, or one connection more.
-use Prim.Native.Nat.{ℕ, suc, ◌+◌, ◌*◌, ◌<◌}
-use mathlib.Core.List.{List, []}
-use mathlib.Core.Path.{◌≡◌, refl, sym, ap, subst, subst₂, ◌∙◌}
+use Prim.Native.Nat.{ℕ, suc, ◌+◌, ◌*◌}
+use mathlib.Core.List.{List}
+use mathlib.Core.Path.{◌≡◌, refl, sym, subst, subst₂, ◌∙◌}
 use native.Mathlib.Omega.{arith}
 use native.Mathlib.Numerals.{add-one}
-use lib.ListN.{length, take}
+use lib.ListN.{take}
 use Rattle.model.specs.declared.Connection.{Connection}
 use Rattle.model.specs.declared.Judgement.{Judgement}
 use Rattle.model.specs.declared.Judgement.TheVariants.{Taken, Faulty}
-use Rattle.model.specs.Judged.{Judged, good, bad}
+use Rattle.model.specs.Judged.{Judged, good}
 use Rattle.model.specs.Connect.{add_connection}
 use Rattle.model.specs.Frame.{connection_frame}
 use Rattle.model.specs.Node.{Node}

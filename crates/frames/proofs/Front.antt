@@ -1,5 +1,5 @@
 -- The counted entries of a lent table, as a table of their own.
-use Prim.Native.Nat.{ℕ, zero, suc, ◌+◌, ◌*◌, ◌/◌, ◌≤◌, ◌<◌}
+use Prim.Native.Nat.{ℕ, zero, suc, ◌*◌, ◌/◌, ◌≤◌, ◌<◌}
 use mathlib.Core.List.{List, []}
 use mathlib.Core.Path.{◌≡◌, refl, sym, ap, subst, ◌∙◌}
 use native.Mathlib.Omega.{arith}
@@ -9,7 +9,7 @@ use Rattle.model.specs.declared.Connection.{Connection}
 use Rattle.model.specs.Judged.{good}
 use Rattle.model.specs.Limits.{node_limit}
 use Rattle.model.specs.Node.{Node}
-use Rattle.model.specs.Tables.{node_table, node_words, connection_words}
+use Rattle.model.specs.Tables.{node_words, connection_words}
 use Rattle.paths.specs.Hangs.{AcceptedConnections}
 use Rattle.entries.specs.Nodes.{NodesStand, NodesWhole, nodes_to, nodes_of, first_nodes}
 use Rattle.entries.specs.Connections.{connections_to, oldest, Supported}

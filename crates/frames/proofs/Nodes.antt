@@ -1,12 +1,11 @@
 -- A frame of a node: refused, or one node more.
-use Prim.Native.Nat.{ℕ, suc, ◌+◌, ◌<◌}
-use mathlib.Core.List.{List, []}
-use mathlib.Core.Path.{◌≡◌, refl, sym, ap, subst, ◌∙◌}
+use Prim.Native.Nat.{ℕ, suc, ◌+◌}
+use mathlib.Core.List.{List}
+use mathlib.Core.Path.{◌≡◌, refl, sym, subst, ◌∙◌}
 use native.Mathlib.Omega.{arith}
 use native.Mathlib.Numerals.{add-one}
-use lib.ListN.{length}
 use Rattle.model.specs.declared.Judgement.TheVariants.{Taken, Faulty}
-use Rattle.model.specs.Judged.{Judged, good, bad}
+use Rattle.model.specs.Judged.{Judged}
 use Rattle.model.specs.Node.{Node}
 use Rattle.model.specs.Tables.{entries}
 use Rattle.model.specs.Run.{State, node_turn}

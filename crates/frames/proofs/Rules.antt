@@ -1,6 +1,6 @@
 -- A frame of a rule: refused, or one rule more.
 use Prim.Native.Nat.{ℕ, suc, ◌+◌, ◌<◌}
-use mathlib.Core.List.{List, []}
+use mathlib.Core.List.{List}
 use mathlib.Core.Option.{Option, none, some}
 use mathlib.Core.Path.{◌≡◌, refl, sym, subst, ◌∙◌}
 use native.Mathlib.Omega.{arith}
@@ -10,7 +10,7 @@ use lib.Dec.{leb}
 use lib.ListN.{length}
 use Rattle.model.specs.declared.Judgement.TheVariants.{Taken, Faulty}
 use Rattle.model.specs.Limits.{rule_limit}
-use Rattle.model.specs.Judged.{Judged, good, bad}
+use Rattle.model.specs.Judged.{Judged, good}
 use Rattle.model.specs.Rule.{Rule, add_rule}
 use Rattle.model.specs.Run.{State, rule_turn}
 use Rattle.laws.proofs.Judging.{never-good, taken, taken-good, faulty-bad}

@@ -4,8 +4,7 @@ use mathlib.Core.List.{List, []}
 use mathlib.Core.Path.{◌≡◌, refl, sym, ap, subst, ◌∙◌}
 use native.Mathlib.Omega.{arith}
 use borrow.Author.Tests.{ne_eqb, eq-eqb}
-use lib.Dec.{eqb}
-use lib.ListN.{length, take}
+use lib.ListN.{length}
 use Rattle.model.specs.Run.{Turn, go, stop, refusal_text}
 use Rattle.laws.specs.Area.{splice}
 use Rattle.laws.proofs.Area.{splice-none}

@@ -1,5 +1,5 @@
 -- The run's state, as the counts and the lent tables hold it.
-use Rattle.std.specs.Prelude.{ℕ, suc, ◌+◌, ◌*◌, ◌/◌, ◌≤◌, ◌<◌, List, ◌≡◌, length, take}
+use Rattle.std.specs.Prelude.{ℕ, ◌+◌, ◌*◌, ◌/◌, ◌≤◌, ◌<◌, List, ◌≡◌, length, take}
 use Rattle.model.specs.declared.Connection.{Connection}
 use Rattle.model.specs.Limits.{node_limit, rule_limit, program_area, flat_words, digit_limit}
 use Rattle.model.specs.Judged.{good}
