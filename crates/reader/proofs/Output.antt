@@ -1,6 +1,6 @@
 -- THE PROGRAM PRINTS THE OUTPUT OF ITS INPUT: whatever meets the contracts of `read_on` and of the end, called again and again over the
 -- pieces that the input comes in, prints exactly `output` of the input and comes to its `outcome`.
-use Prim.Native.Nat.{ℕ, suc, ◌+◌, ◌-◌, ◌≤◌, ◌<◌}
+use Prim.Native.Nat.{ℕ, suc, ◌+◌, ◌≤◌, ◌<◌}
 use mathlib.Core.Bool.{Bool, true, false, ◌||◌, true≢false}
 use mathlib.Core.List.{List, [], ◌∷◌, ◌++◌}
 use mathlib.Core.Path.{◌≡◌, refl, sym, ap, ap₂, subst, ◌∙◌}

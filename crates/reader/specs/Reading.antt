@@ -1,5 +1,5 @@
 -- What reading on in a piece of the input comes to.
-use Rattle.std.specs.Prelude.{ℕ, suc, min, Bool, true, false, ◌||◌, List, [], ◌∷◌, ◌≡◌, eqb, length, take, drop}
+use Rattle.std.specs.Prelude.{ℕ, suc, min, Bool, true, false, ◌||◌, List, [], ◌∷◌, ◌≡◌, eqb, take, drop}
 use Rattle.model.specs.Frame.{line_bytes}
 use Rattle.model.specs.Run.{State, line_turn}
 use Rattle.laws.specs.Area.{splice}

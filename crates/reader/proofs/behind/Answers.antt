@@ -1,9 +1,5 @@
 -- `reader::behind` meets its contract.
-use native.Mathlib.Omega.{arith}
-use borrow.Author.Rules.{rules}
 use mathlib.Core.Path.{refl}
-use Rattle.reader.proofs.behind.Reads as reads
-use Rattle.reader.proofs.next_line.Reads as next-line-reads
 use Rattle.reader.proofs.behind.Goals as goal
 
 -- src/lib.rt:50:1

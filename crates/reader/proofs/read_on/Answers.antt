@@ -1,14 +1,13 @@
 -- `reader::read_on` meets its contract: the line grows up to a line feed, and is taken then.
-use borrow.Author.Rules.{rules}
 use native.Mathlib.Omega.{arith}
-use Prim.Native.Nat.{ℕ, ◌≤◌}
-use mathlib.Core.Path.{◌≡◌, sym, ◌∙◌}
+use Prim.Native.Nat.{◌≤◌}
+use mathlib.Core.Path.{◌≡◌, sym}
 use lib.ListN.{length}
 use lib.Seq.{length-take-le}
-use borrow.Author.Tests.{not-false, not-true}
+use borrow.Author.Tests.{not-true}
 use Rattle.pieces.specs.Line.{kept_limit}
 use Rattle.pieces.proofs.Reading.{gather-held, gather-length}
-use Rattle.reader.proofs.Taken.{reads-open, reads-line}
+use Rattle.reader.proofs.Taken.{reads-open}
 use Rattle.reader.proofs.read_on.Goals as goal
 
 pub returns-then-not-gathered : goal.returns-then-not-gathered
@@ -21,30 +20,15 @@ returns-then-not-gathered c =
 pub slice_bounds-take_line-end : goal.slice_bounds-take_line-end
 slice_bounds-take_line-end c =
     let held-within : c.gather-gathered.result.held ≤ kept_limit = let a = c.args in
-   
     gather-held a.piece.now a.line.now c.gather-gathered.new.line a.from a.place.held c.gather-gathered.result c.requires.from_in_bounds.1 c.requires.from_in_bounds.2 c.gather-gathered.ensures.value c.gather-gathered.ensures.line_after in
     let line-long : length c.gather-gathered.new.line ≡ kept_limit = let a = c.args in
-   
     gather-length a.piece.now a.line.now c.gather-gathered.new.line a.from a.place.held c.gather-gathered.result c.requires.from_in_bounds.1 c.requires.from_in_bounds.2 c.gather-gathered.ensures.value c.gather-gathered.ensures.line_after in
-   
     omega (arith, held-within, line-long)
 
 pub slice_bounds-take_line-end-2 : goal.slice_bounds-take_line-end-2
 slice_bounds-take_line-end-2 c =
     let held-within : c.gather-gathered.result.held ≤ kept_limit = let a = c.args in
-   
     gather-held a.piece.now a.line.now c.gather-gathered.new.line a.from a.place.held c.gather-gathered.result c.requires.from_in_bounds.1 c.requires.from_in_bounds.2 c.gather-gathered.ensures.value c.gather-gathered.ensures.line_after in
     let line-long : length c.gather-gathered.new.line ≡ kept_limit = let a = c.args in
-   
     gather-length a.piece.now a.line.now c.gather-gathered.new.line a.from a.place.held c.gather-gathered.result c.requires.from_in_bounds.1 c.requires.from_in_bounds.2 c.gather-gathered.ensures.value c.gather-gathered.ensures.line_after in
-   
     sym (length-take-le _ _ (omega (arith, held-within, line-long)))
-
-pub returns : goal.returns
-returns c =
-    let a = c.args in
-    let l = c.take_line.new in record {
-      advanced = λ s h. reads-line l.1.1.1.1.0 l.1.1.1.1.1.0 l.1.1.1.1.1.1.0 l.1.1.1.1.1.1.1.0 l.1.1.1.1.1.1.1.1.0 l.1.1.1.1.1.1.1.1.1.0
-          _ c.gather-gathered.result c.gather-gathered.ensures.value a.place s c.gather-gathered.new.line _ (not-false _ c.if-not-gathered.false) (c.take_line.ensures s h);
-      line_after = c.gather-gathered.ensures.line_after;
-    }

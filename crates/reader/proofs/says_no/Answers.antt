@@ -1,8 +1,5 @@
 -- `reader::says_no` meets its contract: the first byte tells.
-use native.Mathlib.Omega.{arith}
-use borrow.Author.Rules.{rules}
 use Rattle.reader.proofs.Taken.{says_first}
-use Rattle.reader.proofs.says_no.Reads as reads
 use Rattle.reader.proofs.says_no.Goals as goal
 
 -- src/lib.rt:39:1
