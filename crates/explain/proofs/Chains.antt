@@ -19,7 +19,7 @@ use Rattle.explain.specs.Pieces.{StoppedIn}
 use Rattle.explain.proofs.Going.{ready_on, within_on, farther-on}
 
 -- behind a chain
-pub through-ready : {piece line kept : List ℕ} {p q : Place} {t u : Store} {from at : ℕ} → Through piece p t line from q u kept at → Ready p t →
+pub through-ready : {piece line : List ℕ} {p : Place} {t : Store} {from : ℕ} {kept : List ℕ} {q : Place} {u : Store} {at : ℕ} → Through piece p t line from q u kept at → Ready p t →
     length line ≡ kept_limit → Ready q u × (length kept ≡ kept_limit)
 through-ready here r long = (r, long)
 through-ready {piece} (farther {q} {u} {kept} {at} s to n v room before a) r long =
@@ -31,7 +31,7 @@ pub record PrintsSome (p : Place) (t : Store) (line piece : List ℕ) (from : �
   pub out : List ℕ
   pub prints : Prints p t line piece from more out status
 
-pub through-prints : {piece line kept out : List ℕ} {p q : Place} {t u : Store} {from at status : ℕ} {more : List (List ℕ)} →
+pub through-prints : {piece line : List ℕ} {p : Place} {t : Store} {from : ℕ} {kept : List ℕ} {q : Place} {u : Store} {at : ℕ} {out : List ℕ} {status : ℕ} {more : List (List ℕ)} →
     Through piece p t line from q u kept at → Prints q u kept piece at more out status → PrintsSome p t line piece from more status
 through-prints here x = record { out = _; prints = x }
 through-prints (farther r to n v room before a) x = through-prints before (goes r to n v room a x)

@@ -8,7 +8,7 @@ ghost use Rattle.explain.specs.Pieces.{PieceTaken, Ended, PieceRead, CameTo};
 
 use frames::{Counts, finish};
 use reader::{Advance, Place, read_on};
-use std::io::{self, Eprint, Input, Print, Read, Write};
+use std::io::{self, Eprint, Input, Read, Write};
 
 // What a run comes to: everything is answered and accepted, some query is refused or proof rejected, a refusal stopped it, or there
 // is trouble with the input or the output.
@@ -35,12 +35,12 @@ enum Reading {
 }
 
 // Tells a failure of the input or the output on standard error. Where that fails too, nobody is left to tell.
-fn tell<R: Eprint>(rt: &R, what: &str, error: &io::Error) {
+fn tell(rt: &HostRuntime, what: &str, error: &io::Error) {
     let _ = eprintln!(rt; "{what}: {error}");
 }
 
 // Prints the first bytes of the room. A failure is told on standard error.
-fn print<R: Print + Eprint>(rt: &R, room: &[u8], count: usize) -> bool
+fn print(rt: &HostRuntime, room: &[u8], count: usize) -> bool
     requires { count ≤ length room.now }
 {
     match io::writer(rt).write_all(&room[..count]) {
@@ -53,7 +53,7 @@ fn print<R: Print + Eprint>(rt: &R, room: &[u8], count: usize) -> bool
 }
 
 // Prints what reading on came to.
-fn show<R: Print + Eprint>(rt: &R, advance: Advance, room: &[u8]) -> Stepped
+fn show(rt: &HostRuntime, advance: Advance, room: &[u8]) -> Stepped
     requires { Fits advance room.now }
     ensures { Shown advance result }
 {
@@ -76,8 +76,8 @@ fn show<R: Print + Eprint>(rt: &R, advance: Advance, room: &[u8]) -> Stepped
 }
 
 // Reads on in a piece, and prints what that comes to.
-fn step<R: Print + Eprint>(
-    rt: &R,
+fn step(
+    rt: &HostRuntime,
     place: Place,
     piece: &[u8],
     from: usize,
@@ -102,8 +102,8 @@ fn step<R: Print + Eprint>(
 }
 
 // Reads a piece to its end, or until the run is over.
-fn take_piece<R: Print + Eprint>(
-    rt: &R,
+fn take_piece(
+    rt: &HostRuntime,
     mut place: Place,
     piece: &[u8],
     line: &mut [u8],
@@ -134,7 +134,7 @@ fn take_piece<R: Print + Eprint>(
 }
 
 // The end of the input: what is printed then, and what the run came to.
-fn end<R: Print + Eprint>(rt: &R, place: Place, room: &mut [u8]) -> u8
+fn end(rt: &HostRuntime, place: Place, room: &mut [u8]) -> u8
     requires { length room.old ≡ text_room }
     ensures { Ended place result }
 {
@@ -154,8 +154,8 @@ fn end<R: Print + Eprint>(rt: &R, place: Place, room: &mut [u8]) -> u8
 }
 
 // One piece read from standard input and taken; the run is over where there is none.
-fn read_piece<R: Input + Print + Eprint>(
-    rt: &R,
+fn read_piece(
+    rt: &HostRuntime,
     place: Place,
     piece: &mut [u8],
     line: &mut [u8],
@@ -194,8 +194,8 @@ fn read_piece<R: Input + Print + Eprint>(
 
 // Reads standard input to its end. A proved loop has to end, and nothing says that the input does, so the loop counts its turns
 // down, from a number that no run uses up.
-pub fn read_all<R: Input + Print + Eprint>(
-    rt: &R,
+pub fn read_all(
+    rt: &HostRuntime,
     piece: &mut [u8],
     line: &mut [u8],
     bytes: &mut [u8],

@@ -2,6 +2,8 @@
 // what the run came to as one digit on descriptor 3, since a program of this language has no exit status of its own.
 #![tactic(auto)]
 
+ghost use Rattle.std.specs.Prelude.{◌<◌};
+
 mod input;
 
 use frames::{AREA_WORDS, CONNECTION_ROOM, NODE_ROOM, RULE_ROOM, TEXT_ROOM};
@@ -23,7 +25,7 @@ const PIECE_BYTES: usize = 65536;
 const STATUS_FILE: &str = "/dev/fd/3";
 
 // Whether the program was started with an argument.
-fn is_asked<R: Env>(rt: &R) -> bool {
+fn is_asked(rt: &HostRuntime) -> bool {
     let mut first = [0u8; 1];
     !matches!(rt.arg(1, &mut first), Err(FillError::NotPresent))
 }
