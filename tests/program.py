@@ -9,7 +9,7 @@ SCRIPT = os.path.join(TOP, 'run')
 
 def build():
     """Proves and builds the program, if that is not done yet."""
-    run('rt', 'run', 'explain')
+    run('tools/program')
 
 
 def printed(given):
