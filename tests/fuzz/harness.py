@@ -1,13 +1,12 @@
 """The harnesses built by the toolchain alone, without the fuzzer, and handed stored inputs (tests/fuzz/replay.c)."""
-import os, platform, struct, subprocess
-from library import TOP, run
+import os, struct, subprocess
+from library import TOP, run, toolchain
 
 OUT, FUZZ = os.path.join(TOP, 'target', 'tests'), os.path.join('tests', 'fuzz')
 
 
 def tools():
-    home = os.path.dirname(os.path.dirname(run('rt', 'doc').strip()))
-    return os.path.join(home, 'on', platform.machine(), 'toolchain')
+    return toolchain()
 
 
 def compiled(source, made, *more):

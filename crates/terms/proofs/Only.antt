@@ -7,20 +7,20 @@ use Rattle.terms.specs.declared.TreeNode.{TreeNode}
 use Rattle.terms.specs.declared.WholeTerms.{WholeTerms}
 use Rattle.terms.specs.Place.{Decides}
 use Rattle.terms.proofs.Place.{end_same}
-use Rattle.terms.proofs.node_at.Reads as Node-at
+use Rattle.terms.proofs.node_at.Reads as node-at
 use Rattle.terms.proofs.same_head.Reads as same_head
-use Rattle.terms.proofs.end_of.Reads as end_of_lem
+use Rattle.terms.proofs.end_of.Reads as end-of
 use Rattle.terms.proofs.same_term.Reads as same-term
 use Rattle.terms.proofs.same_nodes.Reads as same_nodes
 use Rattle.terms.proofs.whole_terms.Reads as whole-terms
 
-node-at-only : (κs : Lfts 1) (a s s' : _) (r r' : TreeNode) → Node-at.Post κs a r s → Node-at.Post κs a r' s' → r ≡ r'
+node-at-only : (κs : Lfts 1) (a s s' : _) (r r' : TreeNode) → node-at.Post κs a r s → node-at.Post κs a r' s' → r ≡ r'
 node-at-only κs a s s' r r' p q = p ∙ sym q
 
 same-head-only : (κs : Lfts 0) (a s s' : _) (r r' : Bool) → same_head.Post κs a r s → same_head.Post κs a r' s' → r ≡ r'
 same-head-only κs a s s' r r' p q = p ∙ sym q
 
-end-of-only : (κs : Lfts 1) (a s s' : _) (r r' : ℕ) → end_of_lem.Post κs a r s → end_of_lem.Post κs a r' s' → r ≡ r'
+end-of-only : (κs : Lfts 1) (a s s' : _) (r r' : ℕ) → end-of.Post κs a r s → end-of.Post κs a r' s' → r ≡ r'
 end-of-only κs a s s' r r' p q = end_same _ _ r r' p.term q.term p.is q.is
 
 -- a fact has one answer

@@ -4,7 +4,7 @@ use mathlib.Core.Path.{◌≡◌, sym, ◌∙◌}
 use contract.Lifetimes.{Lfts}
 use Rattle.trees.proofs.held.Reads as held
 use Rattle.trees.proofs.amount.Reads as amount
-use Rattle.trees.proofs.size_of.Reads as type_size
+use Rattle.trees.proofs.size_of.Reads as size-of
 use Rattle.trees.proofs.words_of.Reads as words_of
 use Rattle.trees.proofs.sizes_from.Reads as sizes-from
 use Rattle.trees.proofs.fill_sizes.Reads as fill-sizes
@@ -19,7 +19,7 @@ held-only κs a s s' r r' p q = p ∙ sym q
 amount-only : (κs : Lfts 1) (a s s' : _) (r r' : ℕ) → amount.Post κs a r s → amount.Post κs a r' s' → r ≡ r'
 amount-only κs a s s' r r' p q = p.0 ∙ sym q.0
 
-size-of-only : (κs : Lfts 1) (a s s' : _) (r r' : ℕ) → type_size.Post κs a r s → type_size.Post κs a r' s' → r ≡ r'
+size-of-only : (κs : Lfts 1) (a s s' : _) (r r' : ℕ) → size-of.Post κs a r s → size-of.Post κs a r' s' → r ≡ r'
 size-of-only κs a s s' r r' p q = p.0 ∙ sym q.0
 
 words-of-only : (κs : Lfts 1) (a s s' : _) (r r' : ℕ) → words_of.Post κs a r s → words_of.Post κs a r' s' → r ≡ r'
