@@ -1,5 +1,5 @@
-/* One input of the fuzzer is one run of the program, in memory: its `main` is called here as `explain_main`, and what it reads and writes
-   goes through `lent_read` and `lent_write` (tests/fuzz/build renames all three in its object). Each input is run in one piece; then with
+/* One input of the fuzzer is one run of the program, in memory: its `main` is called here as `explain_main`, and what it reads, writes and
+   opens goes through `lent_read`, `lent_write` and their like (tests/fuzz/build renames them in its object). Each input is run in one piece; then with
    reads and writes in pieces, which must print the same; and some with a read or a write that fails, which must end the run and be told.
    Of what is printed each line must have one of the program's forms, and be where it may be. */
 #include "lent.h"
@@ -7,8 +7,13 @@
 int explain_main(int count, char **words);
 long lent_read(int file, uint8_t *place, size_t length);
 long lent_write(int file, const uint8_t *bytes, size_t length);
-long rattle_arg_count(void);
+long lent_write_too(int file, const uint8_t *bytes, size_t length);
+int lent_open(const char *path, int flags, ...);
+int lent_close(int file);
+long lent_lseek(int file, long offset, int from);
+long rattle_arg(size_t which, uint8_t *place, size_t length);
 int rattle_errno(void);
+void rattle_set_errno(int number);
 
 /* As many terms as the area has nodes; an answer has at most 28 bytes for each node, a line feed for each term, and its first line. */
 enum { TERMS = 32768 / 4, ANSWER = TERMS * 28 + TERMS + 15, WHOLE = 1 << 30 };
@@ -27,21 +32,56 @@ static struct {
     uint8_t line[ANSWER];
 } printed;
 
-long rattle_arg_count(void)
+/* one argument behind the program's name, longer than the room that it is asked into; then none */
+long rattle_arg(size_t which, uint8_t *place, size_t length)
 {
-    return 2;
+    (void)place;
+    hold(length < 6, "the program asks whether there is an argument, and not for its text");
+    return which < 2 ? -2 : -1;
 }
+
+static int error;
 
 int rattle_errno(void)
 {
-    return 5;
+    return error;
+}
+
+void rattle_set_errno(int number)
+{
+    error = number;
+}
+
+/* descriptor 3, under its name, is all that is opened */
+int lent_open(const char *path, int flags, ...)
+{
+    (void)flags;
+    hold(strlen(path) == 9 && !memcmp(path, "/dev/fd/3", 9), "nothing but descriptor 3 is opened");
+    return 3;
+}
+
+int lent_close(int file)
+{
+    hold(file == 3, "nothing but descriptor 3 is closed");
+    return 0;
+}
+
+/* an input that has no places to go back to, as a pipe */
+long lent_lseek(int file, long offset, int from)
+{
+    (void)offset, (void)from;
+    hold(file == 0, "only the input is asked for its place");
+    error = 29;
+    return -1;
 }
 
 long lent_read(int file, uint8_t *place, size_t length)
 {
     hold(file == 0 && length > 0, "only standard input is read, into a room");
-    if (++given.reads == given.failing_read)
+    if (++given.reads == given.failing_read) {
+        error = 5;
         return -1;
+    }
     size_t left = given.size - given.at, n = length < given.read_most ? length : given.read_most;
     if (n > left)
         n = left;
@@ -131,8 +171,10 @@ long lent_write(int file, const uint8_t *bytes, size_t length)
     if (file == 2)
         return (long)length;
     hold(file == 1 && printed.status < 0, "only the output is written, before the run is over");
-    if (++given.writes == given.failing_write)
+    if (++given.writes == given.failing_write) {
+        error = 5;
         return -1;
+    }
     size_t n = length < given.write_most ? length : given.write_most;
     for (size_t k = 0; k < n; k++) {
         printed.sum = (printed.sum ^ bytes[k]) * 1099511628211u;
@@ -147,6 +189,12 @@ long lent_write(int file, const uint8_t *bytes, size_t length)
     printed.bytes += n;
     hold(printed.bytes <= (given.lines + 1) * (uint64_t)ANSWER, "no more than an answer may have, for each line");
     return (long)n;
+}
+
+/* the same under the C library's other name for it */
+long lent_write_too(int file, const uint8_t *bytes, size_t length)
+{
+    return lent_write(file, bytes, length);
 }
 
 /* One run: its status, and the sum over what was printed. */
