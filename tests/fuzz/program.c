@@ -52,17 +52,19 @@ void rattle_set_errno(int number)
     error = number;
 }
 
-/* descriptor 3, under its name, is all that is opened */
+/* descriptor 3, under its name, is all that is opened, and before it what the system tells of it: that it is open to be written */
+static const char *told = "pos:\t0\nflags:\t0100001\nmnt_id:\t11\n";
+
 int lent_open(const char *path, int flags, ...)
 {
-    (void)flags;
-    hold(strlen(path) == 9 && !memcmp(path, "/dev/fd/3", 9), "nothing but descriptor 3 is opened");
-    return 3;
+    int is_told = strlen(path) == 19 && !memcmp(path, "/proc/self/fdinfo/3", 19) && (flags & 3) == 0;
+    hold(is_told || (strlen(path) == 9 && !memcmp(path, "/dev/fd/3", 9) && (flags & 3) == 1), "nothing but descriptor 3 is opened");
+    return is_told ? 4 : 3;
 }
 
 int lent_close(int file)
 {
-    hold(file == 3, "nothing but descriptor 3 is closed");
+    hold(file == 3 || file == 4, "nothing but descriptor 3 is closed");
     return 0;
 }
 
@@ -77,6 +79,11 @@ long lent_lseek(int file, long offset, int from)
 
 long lent_read(int file, uint8_t *place, size_t length)
 {
+    if (file == 4) {
+        hold(length >= strlen(told), "a room for what is told of a descriptor");
+        memcpy(place, told, strlen(told));
+        return (long)strlen(told);
+    }
     hold(file == 0 && length > 0, "only standard input is read, into a room");
     if (++given.reads == given.failing_read) {
         error = 5;

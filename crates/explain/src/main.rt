@@ -1,5 +1,5 @@
 // Reads frames from standard input and prints what they come to, each answer when its line is read. Started with an argument it writes
-// what the run came to as one digit on descriptor 3, since a program of this language has no exit status of its own.
+// what the run came to as one digit on descriptor 3, and ends with status 0.
 #![tactic(auto)]
 
 ghost use Rattle.std.specs.Prelude.{◌<◌};
@@ -12,8 +12,8 @@ use input::read_all;
 use model::NODE_LIMIT;
 use pieces::KEPT_LIMIT;
 use std::env::{Env, FillError};
-use std::fs::OpenOptions;
-use std::io::Write;
+use std::fs::{File, OpenOptions};
+use std::io::{Read, Write};
 
 // A byte of a frame takes two digits of its line.
 const FRAME_ROOM: usize = DIGIT_LIMIT / 2;
@@ -21,8 +21,10 @@ const FRAME_ROOM: usize = DIGIT_LIMIT / 2;
 // How many bytes are read at a time.
 const PIECE_BYTES: usize = 65536;
 
-// Descriptor 3, as a file to write to.
+// Descriptor 3, as a file to write to, and what the system tells of it.
 const STATUS_FILE: &str = "/dev/fd/3";
+
+const STATUS_INFO: &str = "/proc/self/fdinfo/3";
 
 // Whether the program was started with an argument.
 fn is_asked(rt: &HostRuntime) -> bool {
@@ -30,10 +32,42 @@ fn is_asked(rt: &HostRuntime) -> bool {
     !matches!(rt.arg(1, &mut first), Err(FillError::NotPresent))
 }
 
-// Writes the status as one digit on descriptor 3. Where nobody holds that open, nobody is told.
+// Whether a descriptor may be written to, of what the system tells of it. The second line ends with an octal digit, which is 0 in its
+// lower two bits where the descriptor is open for reading alone.
+fn is_for_writing(told: &[u8]) -> bool {
+    let mut second = false;
+    let mut last = 0u8;
+    for b in told {
+        if *b == b'\n' {
+            if second {
+                return last % 4 != 0;
+            }
+            second = true;
+        }
+        last = *b;
+    }
+    false
+}
+
+// Whether descriptor 3 is open, and for writing.
+fn is_open(rt: &HostRuntime) -> bool {
+    let mut told = [0u8; 64];
+    let Ok(mut file) = File::open(rt, STATUS_INFO) else {
+        return false;
+    };
+    match file.read(&mut told) {
+        Ok(n) => is_for_writing(&told[..n]),
+        Err(_) => false,
+    }
+}
+
+// Writes the status as one digit on descriptor 3. Where nobody holds that open to be written, nobody is told.
 fn tell_status(rt: &HostRuntime, status: u8)
     requires { status < 10 }
 {
+    if !is_open(rt) {
+        return;
+    }
     if let Ok(mut file) = OpenOptions::new().append(true).open(rt, STATUS_FILE) {
         let _ = file.write_all(&[b'0' + status]);
     }

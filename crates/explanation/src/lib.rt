@@ -5,10 +5,7 @@
 ghost use Rattle.std.specs.Prelude.{◌≡◌, ◌/◌, length};
 ghost use Rattle.model.specs.Judged.{judgement_of};
 ghost use Rattle.model.specs.declared.Measured.TheVariants.{Distance};
-ghost use Rattle.model.specs.Query.{measure_report, answer_report};
 ghost use Rattle.model.specs.Tables.{node_words, connection_words, judge_tables, measure_by, answer_by, area_of, verdict_by};
-ghost use Rattle.model.specs.Text.{text_report, term_text, room_after};
-ghost use Rattle.model.specs.Verdict.{report_of};
 ghost use Rattle.entries.specs.Connections.{Supported};
 ghost use Rattle.entries.specs.Nodes.{NodesWhole};
 ghost use Rattle.forest.specs.Rows.{table_words};
@@ -17,7 +14,7 @@ ghost use Rattle.explanation.specs.Query.{Answers, Responds};
 
 use forest::TABLE_WORDS;
 use model::{
-    Answer, DISTANCE_LIMIT, Judgement, Measured, NODE_LIMIT, NODE_WORDS, NodeNo, Printed, Verdict,
+    Answer, DISTANCE_LIMIT, Judgement, Measured, NODE_LIMIT, NODE_WORDS, NodeNo, Verdict,
     WORD_LIMIT, wide,
 };
 use trees::clear_from;

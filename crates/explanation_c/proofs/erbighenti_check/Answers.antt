@@ -1,4 +1,4 @@
--- `explanation::erbighenti_check` meets its contract: document 01's number and value for each case of the verdict.
+-- `explanation_c::erbighenti_check` meets its contract: document 01's number and value for each case of the verdict.
 -- Assumes nothing.
 use mathlib.Core.Path.{sym, ap, ◌∙◌}
 use Rattle.model.specs.declared.Verdict.{Verdict}
