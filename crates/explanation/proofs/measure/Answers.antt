@@ -21,10 +21,43 @@ use Rattle.costs.specs.Costs.{Charged, Between}
 use Rattle.costs.proofs.Payable.{charged-full}
 use Rattle.explanation.proofs.Measures.{no-left, no-right, apart, long, near, ways}
 use Rattle.explanation.proofs.measure.Goals as goal
+use Rattle.explanation.proofs.measure.Goals.{After-fill_rows, After-joined, Else-n-wide-2, Else-not-joined}
 
 -- how many nodes there are
 many : (nws : List ℕ) (t : Tables) → t.nodes ≡ nodes_of nws → length t.nodes ≡ length nws / node_words
 many nws t e = ap length e ∙ length-nodes (length nws / node_words) nws
+
+-- both nodes are in the table
+record Inside (n l r : ℕ) : Type 0 where
+  left : l < n
+  right : r < n
+
+inside : (c : Else-n-wide-2) → let a = c.args in Inside (length a.nodes.now / node_words) a.left.0 a.right.0
+inside c = record { left = omega (arith, c.wide.ensures); right = omega (arith, c.wide-2.ensures) }
+
+charged : (c : After-fill_rows) → let a = c.args in
+    Charged (connections_of a.connections.now) (length a.nodes.now / node_words) c.fill_rows.new.rows
+charged c = charged-full _ (rooted c.requires.supported) c.requires.rows_len c.fill_rows.ensures
+
+told : (c : After-joined) → let a = c.args in
+    c.joined.result ≡ joined (connections_of a.connections.now) a.left.0 a.right.0
+told c =
+    let above = goal.at.After-joined c in
+    let b = inside above.Else-n-wide-2 in
+    c.joined.ensures _ _ (charged above.After-fill_rows).climbs b.left b.right
+
+same : (c : Else-not-joined) → let a = c.args in
+    joined (connections_of a.connections.now) a.left.0 a.right.0 ≡ true
+same c =
+    let above = goal.at.Else-not-joined c in
+    sym (told above.After-joined) ∙ not-false _ c.if-not-joined.false-raw
+
+between : (c : Else-not-joined) → let a = c.args in
+    Between a.nodes.now a.connections.now a.left.0 a.right.0
+between c =
+    let above = goal.at.Else-not-joined c in
+    let b = inside above.Else-n-wide-2 in
+    record { left_in = b.left; right-in = b.right; same = joined-root _ _ _ (same c) }
 
 pub returns-then-n-wide : goal.returns-then-n-wide
 returns-then-n-wide c =
@@ -45,87 +78,49 @@ returns-then-n-wide-2 c =
 pub fill_rows-requires : goal.fill_rows-requires
 fill_rows-requires c = (rooted c.requires.supported, c.requires.rows_len)
 
--- both nodes are in the table
-record Inside (n l r : ℕ) : Type 0 where
-  left : l < n
-  right : r < n
-
 pub joined-requires : goal.joined-requires
 joined-requires c =
-    let inside : let a = c.args in Inside (length a.nodes.now / node_words) a.left.0 a.right.0 = record { left = omega (arith, c.wide.ensures); right = omega (arith, c.wide-2.ensures) } in
-    let charged : let a = c.args in
-    Charged (connections_of a.connections.now) (length a.nodes.now / node_words) c.fill_rows.new.rows = charged-full _ (rooted c.requires.supported) c.requires.rows_len c.fill_rows.ensures in
-    let b = inside in
-    record { conns = _; nodes = _; climbs = (charged).climbs; left_in = b.left; right-in = b.right }
+    let above = goal.at.joined-requires c in
+    let b = inside above.Else-n-wide-2 in
+    record { conns = _; nodes = _; climbs = (charged above.After-fill_rows).climbs; left_in = b.left; right-in = b.right }
 
 pub returns-then-not-joined : goal.returns-then-not-joined
 returns-then-not-joined c =
-    let inside : let a = c.args in Inside (length a.nodes.now / node_words) a.left.0 a.right.0 = record { left = omega (arith, c.wide.ensures); right = omega (arith, c.wide-2.ensures) } in
-    let charged : let a = c.args in
-    Charged (connections_of a.connections.now) (length a.nodes.now / node_words) c.fill_rows.new.rows = charged-full _ (rooted c.requires.supported) c.requires.rows_len c.fill_rows.ensures in
-    let told : let a = c.args in
-    c.joined.result ≡ joined (connections_of a.connections.now) a.left.0 a.right.0 = let b = inside in
-    c.joined.ensures _ _ (charged).climbs b.left b.right in
+    let above = goal.at.returns-then-not-joined c in
     let a = c.args in record {
       measures = λ t ns cs.
           let m = many a.nodes.now t ns in
-          apart t a.left.0 a.right.0 (omega (arith, m, (inside).left)) (omega (arith, m, (inside).right))
-          (rw cs (sym (told) ∙ not-true _ c.if-not-joined.true-raw));
+          apart t a.left.0 a.right.0 (omega (arith, m, (inside above.Else-n-wide-2).left)) (omega (arith, m, (inside above.Else-n-wide-2).right))
+          (rw cs (sym (told above.After-joined) ∙ not-true _ c.if-not-joined.true-raw));
       routed = tt;
     }
 
 pub distance-d-requires : goal.distance-d-requires
 distance-d-requires c =
-    let charged : let a = c.args in
-    Charged (connections_of a.connections.now) (length a.nodes.now / node_words) c.fill_rows.new.rows = charged-full _ (rooted c.requires.supported) c.requires.rows_len c.fill_rows.ensures in
-    let inside : let a = c.args in Inside (length a.nodes.now / node_words) a.left.0 a.right.0 = record { left = omega (arith, c.wide.ensures); right = omega (arith, c.wide-2.ensures) } in
-    let told : let a = c.args in
-    c.joined.result ≡ joined (connections_of a.connections.now) a.left.0 a.right.0 = let b = inside in
-    c.joined.ensures _ _ (charged).climbs b.left b.right in
-    let same : let a = c.args in
-    joined (connections_of a.connections.now) a.left.0 a.right.0 ≡ true = sym (told) ∙ not-false _ c.if-not-joined.false-raw in
-    let between : let a = c.args in
-    Between a.nodes.now a.connections.now a.left.0 a.right.0 = let b = inside in
-    record { left_in = b.left; right-in = b.right; same = joined-root _ _ _ (same) } in record { supported = c.requires.supported; charged = charged; between = between }
+    let above = goal.at.distance-d-requires c in
+    record { supported = c.requires.supported; charged = (charged above.After-fill_rows); between = (between above.Else-not-joined) }
 
 pub returns-then-d-gt-DISTANCE_LIMIT : goal.returns-then-d-gt-DISTANCE_LIMIT
 returns-then-d-gt-DISTANCE_LIMIT c =
-    let inside : let a = c.args in Inside (length a.nodes.now / node_words) a.left.0 a.right.0 = record { left = omega (arith, c.wide.ensures); right = omega (arith, c.wide-2.ensures) } in
-    let charged : let a = c.args in
-    Charged (connections_of a.connections.now) (length a.nodes.now / node_words) c.fill_rows.new.rows = charged-full _ (rooted c.requires.supported) c.requires.rows_len c.fill_rows.ensures in
-    let told : let a = c.args in
-    c.joined.result ≡ joined (connections_of a.connections.now) a.left.0 a.right.0 = let b = inside in
-    c.joined.ensures _ _ (charged).climbs b.left b.right in
-    let same : let a = c.args in
-    joined (connections_of a.connections.now) a.left.0 a.right.0 ≡ true = sym (told) ∙ not-false _ c.if-not-joined.false-raw in
+    let above = goal.at.returns-then-d-gt-DISTANCE_LIMIT c in
     let a = c.args in record {
       measures = λ t ns cs.
           let m = many a.nodes.now t ns in
-          long t a.left.0 a.right.0 (omega (arith, m, (inside).left)) (omega (arith, m, (inside).right)) (rw cs (same))
+          long t a.left.0 a.right.0 (omega (arith, m, (inside above.Else-n-wide-2).left)) (omega (arith, m, (inside above.Else-n-wide-2).right)) (rw cs (same above.Else-not-joined))
           (rw (ns, cs) (omega (arith, c.distance-d.ensures.value)));
       routed = tt;
     }
 
 pub returns : goal.returns
 returns c =
-    let inside : let a = c.args in Inside (length a.nodes.now / node_words) a.left.0 a.right.0 = record { left = omega (arith, c.wide.ensures); right = omega (arith, c.wide-2.ensures) } in
-    let charged : let a = c.args in
-    Charged (connections_of a.connections.now) (length a.nodes.now / node_words) c.fill_rows.new.rows = charged-full _ (rooted c.requires.supported) c.requires.rows_len c.fill_rows.ensures in
-    let told : let a = c.args in
-    c.joined.result ≡ joined (connections_of a.connections.now) a.left.0 a.right.0 = let b = inside in
-    c.joined.ensures _ _ (charged).climbs b.left b.right in
-    let same : let a = c.args in
-    joined (connections_of a.connections.now) a.left.0 a.right.0 ≡ true = sym (told) ∙ not-false _ c.if-not-joined.false-raw in
-    let between : let a = c.args in
-    Between a.nodes.now a.connections.now a.left.0 a.right.0 = let b = inside in
-    record { left_in = b.left; right-in = b.right; same = joined-root _ _ _ (same) } in
+    let above = goal.at.returns c in
     let a = c.args in record {
       measures = λ t ns cs.
           let m = many a.nodes.now t ns in
           let d : c.distance-d.result ≡ dist t.nodes t.conns a.left.0 a.right.0 =
           rw (ns, cs) (omega (arith, c.distance-d.ensures.value)) in
           ap Distance d
-          ∙ near t a.left.0 a.right.0 (omega (arith, m, (inside).left)) (omega (arith, m, (inside).right)) (rw cs (same))
+          ∙ near t a.left.0 a.right.0 (omega (arith, m, (inside above.Else-n-wide-2).left)) (omega (arith, m, (inside above.Else-n-wide-2).right)) (rw cs (same above.Else-not-joined))
           (subst (λ (x : ℕ). x ≤ distance_limit) d c.if-d-gt-DISTANCE_LIMIT.false);
-      routed = ways c.requires.supported (between) (omega (arith, c.distance-d.ensures.value)) (charged) c.distance-d.ensures.rows_after;
+      routed = ways c.requires.supported (between above.Else-not-joined) (omega (arith, c.distance-d.ensures.value)) (charged above.After-fill_rows) c.distance-d.ensures.rows_after;
     }

@@ -18,9 +18,51 @@ use Rattle.trees.proofs.Filled.{drop-words}
 use Rattle.needs.specs.Needs.{Comes, path_nodes, runs_by}
 use Rattle.needs.proofs.Runs.{Runs, runs_done, runs-next, runs_none}
 use Rattle.needs.proofs.runs_need.Goals as goal
+use Rattle.needs.proofs.runs_need.Goals.{After-path_need-run, After-sizes_from, At-loop-i, In-loop-i}
 
 abbrev roomy : ℕ
 roomy = suc (child_limit * table_bound) + child_limit * table_bound
+
+more : (c : In-loop-i) → let a = c.args in
+    c.loop-i.i < count_in a.nodes.now a.a.0
+more c = omega (arith, c.loop-i.invariant.0)
+
+few : (c : In-loop-i) → c.loop-i.i < child_limit
+few c = omega (arith, (more c), c.requires.left-known.narrow)
+
+runs : (c : At-loop-i) → let a = c.args in
+    Runs (λ k. get_or a.sizes.now k 0) (weigh a.rows.now c.requires.conns) (path_nodes a.ups.now a.downs.now c.requires.conns) a.nodes.now
+    (a.a.0 * node_words + children_at) (a.b.0 * node_words + children_at) (count_in a.nodes.now a.a.0) c.loop-i.i c.loop-i.before c.loop-i.sum
+runs c = c.loop-i.invariant.1 c.requires.conns c.requires.charged.climbs
+
+around-small : (c : After-sizes_from) → c.loop-i.before + c.sizes_from.result ≤ roomy
+around-small c =
+    let above = goal.at.After-sizes_from c in
+    omega (arith, c.sizes_from.ensures.1, (runs above.At-loop-i).low, (few above.In-loop-i))
+
+pair : (c : After-path_need-run) → let a = c.args in
+    let x = child_in a.nodes.now a.a.0 c.loop-i.i in
+    let y = child_in a.nodes.now a.b.0 c.loop-i.i in
+    (cs : List Connection) → Climbs cs (nodes_in a.nodes.now) a.rows.now →
+    Comes c.path_need-run.result (weigh a.rows.now cs x y) (path_nodes a.ups.now a.downs.now cs x y)
+pair c =
+    let above = goal.at.After-path_need-run c in
+    λ cs k.
+    let i = c.loop-i.i in
+    let r = c.path_need-run.ensures cs _ k (omega (arith, c.child_of-x.ensures, c.requires.left_in i (more above.In-loop-i))) (omega (arith, c.child_of-y.ensures, c.requires.right-in i (more above.In-loop-i))) in
+    record {
+      cost = r.cost ∙ ap held_nodes (ap₂ (weigh c.args.rows.now cs) c.child_of-x.ensures c.child_of-y.ensures);
+      nodes = r.nodes ∙ ap held_nodes (ap₂ (path_nodes c.args.ups.now c.args.downs.now cs) c.child_of-x.ensures c.child_of-y.ensures);
+    }
+
+pair_small : (c : After-path_need-run) → (c.path_need-run.result.cost ≤ node_cap) × (c.path_need-run.result.nodes ≤ node_cap)
+pair_small c = let r = (pair c) c.requires.conns c.requires.charged.climbs in
+    (omega (arith, r.cost), omega (arith, r.nodes))
+
+product : (c : After-sizes_from) → c.path_need-run.result.cost * (c.loop-i.before + c.sizes_from.result) ≤ node_cap * roomy
+product c =
+    let above = goal.at.After-sizes_from c in
+    mul-le-mul (pair_small above.After-path_need-run).0 (around-small c)
 
 pub count_of-n-requires : goal.count_of-n-requires
 count_of-n-requires c = c.requires.left-known.room
@@ -30,155 +72,65 @@ loop-i-init c = (c.count_of-n.ensures, λ cs k. runs_none _ _ _ _ _ _ _)
 
 pub child_of-x-requires : goal.child_of-x-requires
 child_of-x-requires c =
-    let more : let a = c.args in
-    c.loop-i.i < count_in a.nodes.now a.a.0 = omega (arith, c.loop-i.invariant.0) in
-    let few : c.loop-i.i < child_limit = omega (arith, more, c.requires.left-known.narrow) in
-    (c.requires.left-known.room, few)
+    let above = goal.at.child_of-x-requires c in
+    (c.requires.left-known.room, (few above.In-loop-i))
 
 pub child_of-y-requires : goal.child_of-y-requires
 child_of-y-requires c =
-    let more : let a = c.args in
-    c.loop-i.i < count_in a.nodes.now a.a.0 = omega (arith, c.loop-i.invariant.0) in
-    let few : c.loop-i.i < child_limit = omega (arith, more, c.requires.left-known.narrow) in
-    (c.requires.right-known.room, few)
+    let above = goal.at.child_of-y-requires c in
+    (c.requires.right-known.room, (few above.In-loop-i))
 
 pub path_need-run-requires : goal.path_need-run-requires
 path_need-run-requires c =
-    let more : let a = c.args in
-    c.loop-i.i < count_in a.nodes.now a.a.0 = omega (arith, c.loop-i.invariant.0) in
-    pair-joins c.requires (more) c.child_of-x.ensures c.child_of-y.ensures
+    let above = goal.at.path_need-run-requires c in
+    pair-joins c.requires (more above.In-loop-i) c.child_of-x.ensures c.child_of-y.ensures
 
 pub overflow_add-i : goal.overflow_add-i
 overflow_add-i c =
-    let more : let a = c.args in
-    c.loop-i.i < count_in a.nodes.now a.a.0 = omega (arith, c.loop-i.invariant.0) in
-    let few : c.loop-i.i < child_limit = omega (arith, more, c.requires.left-known.narrow) in
-    omega (arith, few)
+    let above = goal.at.overflow_add-i c in
+    omega (arith, few above.In-loop-i)
 
 pub sizes_from-requires : goal.sizes_from-requires
 sizes_from-requires c = c.requires.left-known
 
 pub overflow_add-around : goal.overflow_add-around
 overflow_add-around c =
-    let runs : let a = c.args in
-    Runs (λ k. get_or a.sizes.now k 0) (weigh a.rows.now c.requires.conns) (path_nodes a.ups.now a.downs.now c.requires.conns) a.nodes.now
-    (a.a.0 * node_words + children_at) (a.b.0 * node_words + children_at) (count_in a.nodes.now a.a.0) c.loop-i.i c.loop-i.before c.loop-i.sum = c.loop-i.invariant.1 c.requires.conns c.requires.charged.climbs in
-    let more : let a = c.args in
-    c.loop-i.i < count_in a.nodes.now a.a.0 = omega (arith, c.loop-i.invariant.0) in
-    let few : c.loop-i.i < child_limit = omega (arith, more, c.requires.left-known.narrow) in
-    let around-small : c.loop-i.before + c.sizes_from.result ≤ roomy = omega (arith, c.sizes_from.ensures.1, (runs).low, few) in
-    omega (arith, around-small)
+    let above = goal.at.overflow_add-around c in
+    omega (arith, around-small above.After-sizes_from)
 
 pub overflow_add-sum : goal.overflow_add-sum
 overflow_add-sum c =
-    let runs : let a = c.args in
-    Runs (λ k. get_or a.sizes.now k 0) (weigh a.rows.now c.requires.conns) (path_nodes a.ups.now a.downs.now c.requires.conns) a.nodes.now
-    (a.a.0 * node_words + children_at) (a.b.0 * node_words + children_at) (count_in a.nodes.now a.a.0) c.loop-i.i c.loop-i.before c.loop-i.sum = c.loop-i.invariant.1 c.requires.conns c.requires.charged.climbs in
-    let more : let a = c.args in
-    c.loop-i.i < count_in a.nodes.now a.a.0 = omega (arith, c.loop-i.invariant.0) in
-    let pair : let a = c.args in
-    let x = child_in a.nodes.now a.a.0 c.loop-i.i in
-    let y = child_in a.nodes.now a.b.0 c.loop-i.i in
-    (cs : List Connection) → Climbs cs (nodes_in a.nodes.now) a.rows.now →
-    Comes c.path_need-run.result (weigh a.rows.now cs x y) (path_nodes a.ups.now a.downs.now cs x y) = λ cs k.
-    let i = c.loop-i.i in
-    let r = c.path_need-run.ensures cs _ k (omega (arith, c.child_of-x.ensures, c.requires.left_in i (more))) (omega (arith, c.child_of-y.ensures, c.requires.right-in i (more))) in
-    record {
-      cost = r.cost ∙ ap held_nodes (ap₂ (weigh c.args.rows.now cs) c.child_of-x.ensures c.child_of-y.ensures);
-      nodes = r.nodes ∙ ap held_nodes (ap₂ (path_nodes c.args.ups.now c.args.downs.now cs) c.child_of-x.ensures c.child_of-y.ensures);
-    } in
-    let pair_small : (c.path_need-run.result.cost ≤ node_cap) × (c.path_need-run.result.nodes ≤ node_cap) = let r = pair c.requires.conns c.requires.charged.climbs in
-    (omega (arith, r.cost), omega (arith, r.nodes)) in
-    omega (arith, (pair_small).1, (runs).small)
+    let above = goal.at.overflow_add-sum c in
+    omega (arith, (pair_small above.After-path_need-run).1, (runs above.At-loop-i).small)
 
 pub overflow_mul-run : goal.overflow_mul-run
 overflow_mul-run c =
-    let runs : let a = c.args in
-    Runs (λ k. get_or a.sizes.now k 0) (weigh a.rows.now c.requires.conns) (path_nodes a.ups.now a.downs.now c.requires.conns) a.nodes.now
-    (a.a.0 * node_words + children_at) (a.b.0 * node_words + children_at) (count_in a.nodes.now a.a.0) c.loop-i.i c.loop-i.before c.loop-i.sum = c.loop-i.invariant.1 c.requires.conns c.requires.charged.climbs in
-    let more : let a = c.args in
-    c.loop-i.i < count_in a.nodes.now a.a.0 = omega (arith, c.loop-i.invariant.0) in
-    let few : c.loop-i.i < child_limit = omega (arith, more, c.requires.left-known.narrow) in
-    let around-small : c.loop-i.before + c.sizes_from.result ≤ roomy = omega (arith, c.sizes_from.ensures.1, (runs).low, few) in
-    let pair : let a = c.args in
-    let x = child_in a.nodes.now a.a.0 c.loop-i.i in
-    let y = child_in a.nodes.now a.b.0 c.loop-i.i in
-    (cs : List Connection) → Climbs cs (nodes_in a.nodes.now) a.rows.now →
-    Comes c.path_need-run.result (weigh a.rows.now cs x y) (path_nodes a.ups.now a.downs.now cs x y) = λ cs k.
-    let i = c.loop-i.i in
-    let r = c.path_need-run.ensures cs _ k (omega (arith, c.child_of-x.ensures, c.requires.left_in i (more))) (omega (arith, c.child_of-y.ensures, c.requires.right-in i (more))) in
-    record {
-      cost = r.cost ∙ ap held_nodes (ap₂ (weigh c.args.rows.now cs) c.child_of-x.ensures c.child_of-y.ensures);
-      nodes = r.nodes ∙ ap held_nodes (ap₂ (path_nodes c.args.ups.now c.args.downs.now cs) c.child_of-x.ensures c.child_of-y.ensures);
-    } in
-    let pair_small : (c.path_need-run.result.cost ≤ node_cap) × (c.path_need-run.result.nodes ≤ node_cap) = let r = pair c.requires.conns c.requires.charged.climbs in
-    (omega (arith, r.cost), omega (arith, r.nodes)) in
-    let product : c.path_need-run.result.cost * (c.loop-i.before + c.sizes_from.result) ≤ node_cap * roomy = mul-le-mul (pair_small).0 (around-small) in
-    omega (arith, product)
+    let above = goal.at.overflow_mul-run c in
+    omega (arith, product above.After-sizes_from)
 
 pub overflow_add-sum-in-loop-i : goal.overflow_add-sum-in-loop-i
 overflow_add-sum-in-loop-i c =
-    let runs : let a = c.args in
-    Runs (λ k. get_or a.sizes.now k 0) (weigh a.rows.now c.requires.conns) (path_nodes a.ups.now a.downs.now c.requires.conns) a.nodes.now
-    (a.a.0 * node_words + children_at) (a.b.0 * node_words + children_at) (count_in a.nodes.now a.a.0) c.loop-i.i c.loop-i.before c.loop-i.sum = c.loop-i.invariant.1 c.requires.conns c.requires.charged.climbs in
-    let more : let a = c.args in
-    c.loop-i.i < count_in a.nodes.now a.a.0 = omega (arith, c.loop-i.invariant.0) in
-    let pair : let a = c.args in
-    let x = child_in a.nodes.now a.a.0 c.loop-i.i in
-    let y = child_in a.nodes.now a.b.0 c.loop-i.i in
-    (cs : List Connection) → Climbs cs (nodes_in a.nodes.now) a.rows.now →
-    Comes c.path_need-run.result (weigh a.rows.now cs x y) (path_nodes a.ups.now a.downs.now cs x y) = λ cs k.
-    let i = c.loop-i.i in
-    let r = c.path_need-run.ensures cs _ k (omega (arith, c.child_of-x.ensures, c.requires.left_in i (more))) (omega (arith, c.child_of-y.ensures, c.requires.right-in i (more))) in
-    record {
-      cost = r.cost ∙ ap held_nodes (ap₂ (weigh c.args.rows.now cs) c.child_of-x.ensures c.child_of-y.ensures);
-      nodes = r.nodes ∙ ap held_nodes (ap₂ (path_nodes c.args.ups.now c.args.downs.now cs) c.child_of-x.ensures c.child_of-y.ensures);
-    } in
-    let pair_small : (c.path_need-run.result.cost ≤ node_cap) × (c.path_need-run.result.nodes ≤ node_cap) = let r = pair c.requires.conns c.requires.charged.climbs in
-    (omega (arith, r.cost), omega (arith, r.nodes)) in
-    let few : c.loop-i.i < child_limit = omega (arith, more, c.requires.left-known.narrow) in
-    let around-small : c.loop-i.before + c.sizes_from.result ≤ roomy = omega (arith, c.sizes_from.ensures.1, (runs).low, few) in
-    let product : c.path_need-run.result.cost * (c.loop-i.before + c.sizes_from.result) ≤ node_cap * roomy = mul-le-mul (pair_small).0 (around-small) in
-    omega (arith, product, (pair_small).1, (runs).small)
+    let above = goal.at.overflow_add-sum-in-loop-i c in
+    omega (arith, (product above.After-sizes_from), (pair_small above.After-path_need-run).1, (runs above.At-loop-i).small)
 
 pub size_of-before-requires : goal.size_of-before-requires
 size_of-before-requires c =
-    let more : let a = c.args in
-    c.loop-i.i < count_in a.nodes.now a.a.0 = omega (arith, c.loop-i.invariant.0) in
-    omega (arith, c.child_of-y.ensures, c.requires.right-in c.loop-i.i (more), c.requires.charged.climbs.rooted.few)
+    let above = goal.at.size_of-before-requires c in
+    omega (arith, c.child_of-y.ensures, c.requires.right-in c.loop-i.i (more above.In-loop-i), c.requires.charged.climbs.rooted.few)
 
 pub overflow_add-before : goal.overflow_add-before
 overflow_add-before c =
-    let runs : let a = c.args in
-    Runs (λ k. get_or a.sizes.now k 0) (weigh a.rows.now c.requires.conns) (path_nodes a.ups.now a.downs.now c.requires.conns) a.nodes.now
-    (a.a.0 * node_words + children_at) (a.b.0 * node_words + children_at) (count_in a.nodes.now a.a.0) c.loop-i.i c.loop-i.before c.loop-i.sum = c.loop-i.invariant.1 c.requires.conns c.requires.charged.climbs in
-    let more : let a = c.args in
-    c.loop-i.i < count_in a.nodes.now a.a.0 = omega (arith, c.loop-i.invariant.0) in
-    let few : c.loop-i.i < child_limit = omega (arith, more, c.requires.left-known.narrow) in
-    omega (arith, (runs).low, few, c.size_of-before.ensures.1)
+    let above = goal.at.overflow_add-before c in
+    omega (arith, (runs above.At-loop-i).low, (few above.In-loop-i), c.size_of-before.ensures.1)
 
 pub overflow_add-i-in-loop-i : goal.overflow_add-i-in-loop-i
 overflow_add-i-in-loop-i c =
-    let more : let a = c.args in
-    c.loop-i.i < count_in a.nodes.now a.a.0 = omega (arith, c.loop-i.invariant.0) in
-    let few : c.loop-i.i < child_limit = omega (arith, more, c.requires.left-known.narrow) in
-    omega (arith, few)
+    let above = goal.at.overflow_add-i-in-loop-i c in
+    omega (arith, few above.In-loop-i)
 
 pub loop-i-preserved : goal.loop-i-preserved
 loop-i-preserved c =
-    let more : let a = c.args in
-    c.loop-i.i < count_in a.nodes.now a.a.0 = omega (arith, c.loop-i.invariant.0) in
-    let pair : let a = c.args in
-    let x = child_in a.nodes.now a.a.0 c.loop-i.i in
-    let y = child_in a.nodes.now a.b.0 c.loop-i.i in
-    (cs : List Connection) → Climbs cs (nodes_in a.nodes.now) a.rows.now →
-    Comes c.path_need-run.result (weigh a.rows.now cs x y) (path_nodes a.ups.now a.downs.now cs x y) = λ cs k.
-    let i = c.loop-i.i in
-    let r = c.path_need-run.ensures cs _ k (omega (arith, c.child_of-x.ensures, c.requires.left_in i (more))) (omega (arith, c.child_of-y.ensures, c.requires.right-in i (more))) in
-    record {
-      cost = r.cost ∙ ap held_nodes (ap₂ (weigh c.args.rows.now cs) c.child_of-x.ensures c.child_of-y.ensures);
-      nodes = r.nodes ∙ ap held_nodes (ap₂ (path_nodes c.args.ups.now c.args.downs.now cs) c.child_of-x.ensures c.child_of-y.ensures);
-    } in
+    let above = goal.at.loop-i-preserved c in
     let around : let a = c.args in
     c.loop-i.before + c.sizes_from.result ≡
     c.loop-i.before
@@ -187,7 +139,7 @@ loop-i-preserved c =
     (c.sizes_from.ensures.0 ∙ ap (sum (λ k. get_or a.sizes.now k 0)) (drop-words a.nodes.now (a.a.0 * node_words + children_at) _ (c.loop-i.i + 1))) in
     let a = c.args in (
       c.loop-i.invariant.0,
-      λ cs k. runs-next (c.loop-i.invariant.1 cs k) _ _ _ _ _ (more) (pair cs k).cost (pair cs k).nodes (around)
+      λ cs k. runs-next (c.loop-i.invariant.1 cs k) _ _ _ _ _ (more above.In-loop-i) ((pair above.After-path_need-run) cs k).cost ((pair above.After-path_need-run) cs k).nodes (around)
           (c.size_of-before.ensures.0 ∙ ap (λ (z : ℕ). get_or a.sizes.now z 0) c.child_of-y.ensures) c.size_of-before.ensures.1 c.held-sum.ensures,
     )
 

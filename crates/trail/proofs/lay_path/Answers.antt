@@ -15,6 +15,7 @@ use Rattle.laws.proofs.Area.{length-splice, splice-more}
 use Rattle.trail.specs.Legs.{ages}
 use Rattle.trail.proofs.Laying.{laid_out, top-at}
 use Rattle.trail.proofs.lay_path.Goals as goal
+use Rattle.trail.proofs.lay_path.Goals.{After-count_legs, In-At}
 
 -- where the climbs meet, by any connections that the rows stand for
 record Met (rows : List ℕ) (cs : List Connection) (l r t : ℕ) : Type 0 where
@@ -28,6 +29,37 @@ record Laid (rows : List ℕ) (cs : List Connection) (old new : List ℕ) (used 
   turn_is : turn ≡ used + length (ages rows cs r t)
   ups-is : ups ≡ length (ages rows cs l t)
 
+met : (c : In-At) → (cs : List Connection) (n : ℕ) → Climbs cs n c.args.rows.now → c.args.left.0 < n → c.args.right.0 < n →
+    Met c.args.rows.now cs c.args.left.0 c.args.right.0 c.in-At.meeting.0
+met c = λ cs n k p q.
+    let e = sym c.in-At.is ∙ c.meet-m.ensures cs n k p q in
+    let t = two_at c.args.rows.now k e in
+    record { left = t.left; right = t.right; top = top-at cs c.args.left.0 c.args.right.0 e }
+
+met-here : (c : In-At) → Met c.args.rows.now c.requires.1.conns c.args.left.0 c.args.right.0 c.in-At.meeting.0
+met-here c = (met c) c.requires.1.conns c.requires.1.nodes c.requires.1.climbs c.requires.1.left_in c.requires.1.right-in
+
+room : (c : In-At) → let t = c.in-At.meeting.0 in
+    let climb = ages c.args.rows.now c.requires.1.conns in
+    c.args.used + length (climb c.args.right.0 t) + length (climb c.args.left.0 t) ≤ term_limit
+room c = let e = (met-here c).top in
+    let climb = ages c.args.rows.now c.requires.1.conns in
+    omega (arith, c.requires.1.few, ap (λ (x : ℕ). length (climb c.args.right.0 x)) e, ap (λ (x : ℕ). length (climb c.args.left.0 x)) e)
+
+laid : (c : After-count_legs) → (cs : List Connection) (n : ℕ) → Climbs cs n c.args.rows.now → c.args.left.0 < n → c.args.right.0 < n →
+    Laid c.args.rows.now cs c.args.trail.now c.lay_down-turn.new.trail c.args.used c.args.left.0 c.args.right.0 c.in-At.meeting.0
+    c.lay_down-turn.result c.count_legs.result
+laid c =
+    let above = goal.at.After-count_legs c in
+    λ cs n k p q.
+    let t = (met above.In-At) cs n k p q in
+    let w = c.lay_down-turn.ensures cs n k q t.right in
+    record { trail_is = w.0; turn_is = w.1; ups-is = c.count_legs.ensures cs n k p t.left }
+
+laid-here : (c : After-count_legs) → Laid c.args.rows.now c.requires.1.conns c.args.trail.now c.lay_down-turn.new.trail c.args.used c.args.left.0 c.args.right.0
+    c.in-At.meeting.0 c.lay_down-turn.result c.count_legs.result
+laid-here c = (laid c) c.requires.1.conns c.requires.1.nodes c.requires.1.climbs c.requires.1.left_in c.requires.1.right-in
+
 pub meet-m-requires : goal.meet-m-requires
 meet-m-requires c =
     record { conns = c.requires.1.conns; nodes = c.requires.1.nodes; climbs = c.requires.1.climbs; left_in = c.requires.1.left_in; right-in = c.requires.1.right-in }
@@ -39,18 +71,8 @@ returns-in-Nowhere c =
 
 pub lay_down-turn-requires : goal.lay_down-turn-requires
 lay_down-turn-requires c =
-    let met : (cs : List Connection) (n : ℕ) → Climbs cs n c.args.rows.now → c.args.left.0 < n → c.args.right.0 < n →
-    Met c.args.rows.now cs c.args.left.0 c.args.right.0 c.in-At.meeting.0 = λ cs n k p q.
-    let e = sym c.in-At.is ∙ c.meet-m.ensures cs n k p q in
-    let t = two_at c.args.rows.now k e in
-    record { left = t.left; right = t.right; top = top-at cs c.args.left.0 c.args.right.0 e } in
-    let met-here : Met c.args.rows.now c.requires.1.conns c.args.left.0 c.args.right.0 c.in-At.meeting.0 = met c.requires.1.conns c.requires.1.nodes c.requires.1.climbs c.requires.1.left_in c.requires.1.right-in in
-    let room : let t = c.in-At.meeting.0 in
-    let climb = ages c.args.rows.now c.requires.1.conns in
-    c.args.used + length (climb c.args.right.0 t) + length (climb c.args.left.0 t) ≤ term_limit = let e = (met-here).top in
-    let climb = ages c.args.rows.now c.requires.1.conns in
-    omega (arith, c.requires.1.few, ap (λ (x : ℕ). length (climb c.args.right.0 x)) e, ap (λ (x : ℕ). length (climb c.args.left.0 x)) e) in
-    let few = room in (
+    let above = goal.at.lay_down-turn-requires c in
+    let few = room above.In-At in (
       c.requires.0,
       omega arith,
       record {
@@ -58,73 +80,27 @@ lay_down-turn-requires c =
         nodes = c.requires.1.nodes;
         climbs = c.requires.1.climbs;
         inside = c.requires.1.right-in;
-        above = (met-here).right;
+        above = (met-here above.In-At).right;
         few = omega arith;
       },
     )
 
 pub count_legs-requires : goal.count_legs-requires
 count_legs-requires c =
-    let met : (cs : List Connection) (n : ℕ) → Climbs cs n c.args.rows.now → c.args.left.0 < n → c.args.right.0 < n →
-    Met c.args.rows.now cs c.args.left.0 c.args.right.0 c.in-At.meeting.0 = λ cs n k p q.
-    let e = sym c.in-At.is ∙ c.meet-m.ensures cs n k p q in
-    let t = two_at c.args.rows.now k e in
-    record { left = t.left; right = t.right; top = top-at cs c.args.left.0 c.args.right.0 e } in
-    let met-here : Met c.args.rows.now c.requires.1.conns c.args.left.0 c.args.right.0 c.in-At.meeting.0 = met c.requires.1.conns c.requires.1.nodes c.requires.1.climbs c.requires.1.left_in c.requires.1.right-in in
-    let room : let t = c.in-At.meeting.0 in
-    let climb = ages c.args.rows.now c.requires.1.conns in
-    c.args.used + length (climb c.args.right.0 t) + length (climb c.args.left.0 t) ≤ term_limit = let e = (met-here).top in
-    let climb = ages c.args.rows.now c.requires.1.conns in
-    omega (arith, c.requires.1.few, ap (λ (x : ℕ). length (climb c.args.right.0 x)) e, ap (λ (x : ℕ). length (climb c.args.left.0 x)) e) in
-    let few = room in
-    record { conns = c.requires.1.conns; nodes = c.requires.1.nodes; climbs = c.requires.1.climbs; inside = c.requires.1.left_in; above = (met-here).left; few = omega arith }
+    let above = goal.at.count_legs-requires c in
+    let few = room above.In-At in
+    record { conns = c.requires.1.conns; nodes = c.requires.1.nodes; climbs = c.requires.1.climbs; inside = c.requires.1.left_in; above = (met-here above.In-At).left; few = omega arith }
 
 pub overflow_add-top : goal.overflow_add-top
 overflow_add-top c =
-    let met : (cs : List Connection) (n : ℕ) → Climbs cs n c.args.rows.now → c.args.left.0 < n → c.args.right.0 < n →
-    Met c.args.rows.now cs c.args.left.0 c.args.right.0 c.in-At.meeting.0 = λ cs n k p q.
-    let e = sym c.in-At.is ∙ c.meet-m.ensures cs n k p q in
-    let t = two_at c.args.rows.now k e in
-    record { left = t.left; right = t.right; top = top-at cs c.args.left.0 c.args.right.0 e } in
-    let met-here : Met c.args.rows.now c.requires.1.conns c.args.left.0 c.args.right.0 c.in-At.meeting.0 = met c.requires.1.conns c.requires.1.nodes c.requires.1.climbs c.requires.1.left_in c.requires.1.right-in in
-    let room : let t = c.in-At.meeting.0 in
-    let climb = ages c.args.rows.now c.requires.1.conns in
-    c.args.used + length (climb c.args.right.0 t) + length (climb c.args.left.0 t) ≤ term_limit = let e = (met-here).top in
-    let climb = ages c.args.rows.now c.requires.1.conns in
-    omega (arith, c.requires.1.few, ap (λ (x : ℕ). length (climb c.args.right.0 x)) e, ap (λ (x : ℕ). length (climb c.args.left.0 x)) e) in
-    let laid : (cs : List Connection) (n : ℕ) → Climbs cs n c.args.rows.now → c.args.left.0 < n → c.args.right.0 < n →
-    Laid c.args.rows.now cs c.args.trail.now c.lay_down-turn.new.trail c.args.used c.args.left.0 c.args.right.0 c.in-At.meeting.0
-    c.lay_down-turn.result c.count_legs.result = λ cs n k p q.
-    let t = met cs n k p q in
-    let w = c.lay_down-turn.ensures cs n k q t.right in
-    record { trail_is = w.0; turn_is = w.1; ups-is = c.count_legs.ensures cs n k p t.left } in
-    let laid-here : Laid c.args.rows.now c.requires.1.conns c.args.trail.now c.lay_down-turn.new.trail c.args.used c.args.left.0 c.args.right.0
-    c.in-At.meeting.0 c.lay_down-turn.result c.count_legs.result = laid c.requires.1.conns c.requires.1.nodes c.requires.1.climbs c.requires.1.left_in c.requires.1.right-in in
-    let w = laid-here in omega (arith, w.turn_is, w.ups-is, room)
+    let above = goal.at.overflow_add-top c in
+    let w = laid-here above.After-count_legs in omega (arith, w.turn_is, w.ups-is, (room above.In-At))
 
 pub lay_up-requires : goal.lay_up-requires
 lay_up-requires c =
-    let met : (cs : List Connection) (n : ℕ) → Climbs cs n c.args.rows.now → c.args.left.0 < n → c.args.right.0 < n →
-    Met c.args.rows.now cs c.args.left.0 c.args.right.0 c.in-At.meeting.0 = λ cs n k p q.
-    let e = sym c.in-At.is ∙ c.meet-m.ensures cs n k p q in
-    let t = two_at c.args.rows.now k e in
-    record { left = t.left; right = t.right; top = top-at cs c.args.left.0 c.args.right.0 e } in
-    let met-here : Met c.args.rows.now c.requires.1.conns c.args.left.0 c.args.right.0 c.in-At.meeting.0 = met c.requires.1.conns c.requires.1.nodes c.requires.1.climbs c.requires.1.left_in c.requires.1.right-in in
-    let room : let t = c.in-At.meeting.0 in
-    let climb = ages c.args.rows.now c.requires.1.conns in
-    c.args.used + length (climb c.args.right.0 t) + length (climb c.args.left.0 t) ≤ term_limit = let e = (met-here).top in
-    let climb = ages c.args.rows.now c.requires.1.conns in
-    omega (arith, c.requires.1.few, ap (λ (x : ℕ). length (climb c.args.right.0 x)) e, ap (λ (x : ℕ). length (climb c.args.left.0 x)) e) in
-    let laid : (cs : List Connection) (n : ℕ) → Climbs cs n c.args.rows.now → c.args.left.0 < n → c.args.right.0 < n →
-    Laid c.args.rows.now cs c.args.trail.now c.lay_down-turn.new.trail c.args.used c.args.left.0 c.args.right.0 c.in-At.meeting.0
-    c.lay_down-turn.result c.count_legs.result = λ cs n k p q.
-    let t = met cs n k p q in
-    let w = c.lay_down-turn.ensures cs n k q t.right in
-    record { trail_is = w.0; turn_is = w.1; ups-is = c.count_legs.ensures cs n k p t.left } in
-    let laid-here : Laid c.args.rows.now c.requires.1.conns c.args.trail.now c.lay_down-turn.new.trail c.args.used c.args.left.0 c.args.right.0
-    c.in-At.meeting.0 c.lay_down-turn.result c.count_legs.result = laid c.requires.1.conns c.requires.1.nodes c.requires.1.climbs c.requires.1.left_in c.requires.1.right-in in
-    let w = laid-here in
-    let few = room in
+    let above = goal.at.lay_up-requires c in
+    let w = laid-here above.After-count_legs in
+    let few = room above.In-At in
     let turn = w.turn_is in
     let ups = w.ups-is in (
       ap length w.trail_is ∙ length-splice _ _ _ (omega arith) ∙ c.requires.0,
@@ -134,43 +110,25 @@ lay_up-requires c =
         nodes = c.requires.1.nodes;
         climbs = c.requires.1.climbs;
         inside = c.requires.1.left_in;
-        above = (met-here).left;
+        above = (met-here above.In-At).left;
         few = omega arith;
       },
     )
 
 pub returns-in-At : goal.returns-in-At
 returns-in-At c =
-    let met : (cs : List Connection) (n : ℕ) → Climbs cs n c.args.rows.now → c.args.left.0 < n → c.args.right.0 < n →
-    Met c.args.rows.now cs c.args.left.0 c.args.right.0 c.in-At.meeting.0 = λ cs n k p q.
-    let e = sym c.in-At.is ∙ c.meet-m.ensures cs n k p q in
-    let t = two_at c.args.rows.now k e in
-    record { left = t.left; right = t.right; top = top-at cs c.args.left.0 c.args.right.0 e } in
-    let met-here : Met c.args.rows.now c.requires.1.conns c.args.left.0 c.args.right.0 c.in-At.meeting.0 = met c.requires.1.conns c.requires.1.nodes c.requires.1.climbs c.requires.1.left_in c.requires.1.right-in in
-    let room : let t = c.in-At.meeting.0 in
-    let climb = ages c.args.rows.now c.requires.1.conns in
-    c.args.used + length (climb c.args.right.0 t) + length (climb c.args.left.0 t) ≤ term_limit = let e = (met-here).top in
-    let climb = ages c.args.rows.now c.requires.1.conns in
-    omega (arith, c.requires.1.few, ap (λ (x : ℕ). length (climb c.args.right.0 x)) e, ap (λ (x : ℕ). length (climb c.args.left.0 x)) e) in
-    let laid : (cs : List Connection) (n : ℕ) → Climbs cs n c.args.rows.now → c.args.left.0 < n → c.args.right.0 < n →
-    Laid c.args.rows.now cs c.args.trail.now c.lay_down-turn.new.trail c.args.used c.args.left.0 c.args.right.0 c.in-At.meeting.0
-    c.lay_down-turn.result c.count_legs.result = λ cs n k p q.
-    let t = met cs n k p q in
-    let w = c.lay_down-turn.ensures cs n k q t.right in
-    record { trail_is = w.0; turn_is = w.1; ups-is = c.count_legs.ensures cs n k p t.left } in
-    let laid-here : Laid c.args.rows.now c.requires.1.conns c.args.trail.now c.lay_down-turn.new.trail c.args.used c.args.left.0 c.args.right.0
-    c.in-At.meeting.0 c.lay_down-turn.result c.count_legs.result = laid c.requires.1.conns c.requires.1.nodes c.requires.1.climbs c.requires.1.left_in c.requires.1.right-in in
+    let above = goal.at.returns-in-At c in
     λ cs n k p q.
     let a = c.args in
-    let t = met cs n k p q in
-    let w = laid cs n k p q in
-    let here = laid-here in
+    let t = (met above.In-At) cs n k p q in
+    let w = (laid above.After-count_legs) cs n k p q in
+    let here = laid-here above.After-count_legs in
     let ds = ages a.rows.now cs a.right.0 c.in-At.meeting.0 in
     let us = ages a.rows.now cs a.left.0 c.in-At.meeting.0 in
     let turn : c.lay_down-turn.result + c.count_legs.result - length us ≡ a.used + length ds = omega (arith, w.turn_is, w.ups-is) in
     laid_out t.top
     (c.lay_up.ensures cs n k p t.left
     ∙ ap₂ (λ (x : List ℕ) (i : ℕ). splice x i (reverse us)) w.trail_is turn
-    ∙ splice-more a.trail.now a.used ds (reverse us) (omega (arith, w.turn_is, here.turn_is, room, c.requires.0)))
+    ∙ splice-more a.trail.now a.used ds (reverse us) (omega (arith, w.turn_is, here.turn_is, (room above.In-At), c.requires.0)))
     w.turn_is
     (ap (λ (x : ℕ). c.lay_down-turn.result + x) w.ups-is)

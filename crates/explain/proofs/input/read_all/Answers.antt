@@ -7,6 +7,25 @@ use Rattle.explain.proofs.Runs.{since-first, on-ready, on-since, over}
 use borrow.Author.Rules.{rules}
 use native.Mathlib.Omega.{arith}
 use Rattle.explain.proofs.input.read_all.Goals as goal
+use Rattle.explain.proofs.input.read_all.Goals.{After-read_piece-reading}
+
+piece-alike : (c : After-read_piece-reading) → let m = c.loop-turns in
+    (length c.read_piece-reading.new.piece ≡ length m.piece)
+    × Alike m.line m.bytes m.nodes m.rules m.conns m.classes m.area m.room
+    c.read_piece-reading.new.line c.read_piece-reading.new.bytes c.read_piece-reading.new.nodes c.read_piece-reading.new.rules c.read_piece-reading.new.conns c.read_piece-reading.new.classes c.read_piece-reading.new.area c.read_piece-reading.new.room
+piece-alike c = (
+  search rules,
+  record {
+    as_line = search rules;
+    as_bytes = search rules;
+    as-nodes = search rules;
+    as-rules = search rules;
+    as-conns = search rules;
+    as-classes = search rules;
+    as-area = search rules;
+    as_room = search rules;
+  },
+)
 
 pub loop-turns-init : goal.loop-turns-init
 loop-turns-init c =
@@ -21,183 +40,48 @@ read_piece-reading-requires c =
 
 pub shape_of-piece-in-Ends : goal.shape_of-piece-in-Ends
 shape_of-piece-in-Ends c =
-    let piece-alike : let m = c.loop-turns in
-    (length c.read_piece-reading.new.piece ≡ length m.piece)
-    × Alike m.line m.bytes m.nodes m.rules m.conns m.classes m.area m.room
-    c.read_piece-reading.new.line c.read_piece-reading.new.bytes c.read_piece-reading.new.nodes c.read_piece-reading.new.rules c.read_piece-reading.new.conns c.read_piece-reading.new.classes c.read_piece-reading.new.area c.read_piece-reading.new.room = (
-      search rules,
-      record {
-        as_line = search rules;
-        as_bytes = search rules;
-        as-nodes = search rules;
-        as-rules = search rules;
-        as-conns = search rules;
-        as-classes = search rules;
-        as-area = search rules;
-        as_room = search rules;
-      },
-    ) in
-    (piece-alike).0 ∙ c.loop-turns.invariant.1
+    let above = goal.at.shape_of-piece-in-Ends c in
+    (piece-alike above.After-read_piece-reading).0 ∙ c.loop-turns.invariant.1
 
 pub shape_of-line-in-Ends : goal.shape_of-line-in-Ends
 shape_of-line-in-Ends c =
-    let piece-alike : let m = c.loop-turns in
-    (length c.read_piece-reading.new.piece ≡ length m.piece)
-    × Alike m.line m.bytes m.nodes m.rules m.conns m.classes m.area m.room
-    c.read_piece-reading.new.line c.read_piece-reading.new.bytes c.read_piece-reading.new.nodes c.read_piece-reading.new.rules c.read_piece-reading.new.conns c.read_piece-reading.new.classes c.read_piece-reading.new.area c.read_piece-reading.new.room = (
-      search rules,
-      record {
-        as_line = search rules;
-        as_bytes = search rules;
-        as-nodes = search rules;
-        as-rules = search rules;
-        as-conns = search rules;
-        as-classes = search rules;
-        as-area = search rules;
-        as_room = search rules;
-      },
-    ) in
-    (alike-on c.loop-turns.invariant.2 (piece-alike).1).as_line
+    let above = goal.at.shape_of-line-in-Ends c in
+    (alike-on c.loop-turns.invariant.2 (piece-alike above.After-read_piece-reading).1).as_line
 
 pub shape_of-bytes-in-Ends : goal.shape_of-bytes-in-Ends
 shape_of-bytes-in-Ends c =
-    let piece-alike : let m = c.loop-turns in
-    (length c.read_piece-reading.new.piece ≡ length m.piece)
-    × Alike m.line m.bytes m.nodes m.rules m.conns m.classes m.area m.room
-    c.read_piece-reading.new.line c.read_piece-reading.new.bytes c.read_piece-reading.new.nodes c.read_piece-reading.new.rules c.read_piece-reading.new.conns c.read_piece-reading.new.classes c.read_piece-reading.new.area c.read_piece-reading.new.room = (
-      search rules,
-      record {
-        as_line = search rules;
-        as_bytes = search rules;
-        as-nodes = search rules;
-        as-rules = search rules;
-        as-conns = search rules;
-        as-classes = search rules;
-        as-area = search rules;
-        as_room = search rules;
-      },
-    ) in
-    (alike-on c.loop-turns.invariant.2 (piece-alike).1).as_bytes
+    let above = goal.at.shape_of-bytes-in-Ends c in
+    (alike-on c.loop-turns.invariant.2 (piece-alike above.After-read_piece-reading).1).as_bytes
 
 pub shape_of-nodes-in-Ends : goal.shape_of-nodes-in-Ends
 shape_of-nodes-in-Ends c =
-    let piece-alike : let m = c.loop-turns in
-    (length c.read_piece-reading.new.piece ≡ length m.piece)
-    × Alike m.line m.bytes m.nodes m.rules m.conns m.classes m.area m.room
-    c.read_piece-reading.new.line c.read_piece-reading.new.bytes c.read_piece-reading.new.nodes c.read_piece-reading.new.rules c.read_piece-reading.new.conns c.read_piece-reading.new.classes c.read_piece-reading.new.area c.read_piece-reading.new.room = (
-      search rules,
-      record {
-        as_line = search rules;
-        as_bytes = search rules;
-        as-nodes = search rules;
-        as-rules = search rules;
-        as-conns = search rules;
-        as-classes = search rules;
-        as-area = search rules;
-        as_room = search rules;
-      },
-    ) in
-    (alike-on c.loop-turns.invariant.2 (piece-alike).1).as-nodes
+    let above = goal.at.shape_of-nodes-in-Ends c in
+    (alike-on c.loop-turns.invariant.2 (piece-alike above.After-read_piece-reading).1).as-nodes
 
 pub shape_of-rules-in-Ends : goal.shape_of-rules-in-Ends
 shape_of-rules-in-Ends c =
-    let piece-alike : let m = c.loop-turns in
-    (length c.read_piece-reading.new.piece ≡ length m.piece)
-    × Alike m.line m.bytes m.nodes m.rules m.conns m.classes m.area m.room
-    c.read_piece-reading.new.line c.read_piece-reading.new.bytes c.read_piece-reading.new.nodes c.read_piece-reading.new.rules c.read_piece-reading.new.conns c.read_piece-reading.new.classes c.read_piece-reading.new.area c.read_piece-reading.new.room = (
-      search rules,
-      record {
-        as_line = search rules;
-        as_bytes = search rules;
-        as-nodes = search rules;
-        as-rules = search rules;
-        as-conns = search rules;
-        as-classes = search rules;
-        as-area = search rules;
-        as_room = search rules;
-      },
-    ) in
-    (alike-on c.loop-turns.invariant.2 (piece-alike).1).as-rules
+    let above = goal.at.shape_of-rules-in-Ends c in
+    (alike-on c.loop-turns.invariant.2 (piece-alike above.After-read_piece-reading).1).as-rules
 
 pub shape_of-conns-in-Ends : goal.shape_of-conns-in-Ends
 shape_of-conns-in-Ends c =
-    let piece-alike : let m = c.loop-turns in
-    (length c.read_piece-reading.new.piece ≡ length m.piece)
-    × Alike m.line m.bytes m.nodes m.rules m.conns m.classes m.area m.room
-    c.read_piece-reading.new.line c.read_piece-reading.new.bytes c.read_piece-reading.new.nodes c.read_piece-reading.new.rules c.read_piece-reading.new.conns c.read_piece-reading.new.classes c.read_piece-reading.new.area c.read_piece-reading.new.room = (
-      search rules,
-      record {
-        as_line = search rules;
-        as_bytes = search rules;
-        as-nodes = search rules;
-        as-rules = search rules;
-        as-conns = search rules;
-        as-classes = search rules;
-        as-area = search rules;
-        as_room = search rules;
-      },
-    ) in
-    (alike-on c.loop-turns.invariant.2 (piece-alike).1).as-conns
+    let above = goal.at.shape_of-conns-in-Ends c in
+    (alike-on c.loop-turns.invariant.2 (piece-alike above.After-read_piece-reading).1).as-conns
 
 pub shape_of-classes-in-Ends : goal.shape_of-classes-in-Ends
 shape_of-classes-in-Ends c =
-    let piece-alike : let m = c.loop-turns in
-    (length c.read_piece-reading.new.piece ≡ length m.piece)
-    × Alike m.line m.bytes m.nodes m.rules m.conns m.classes m.area m.room
-    c.read_piece-reading.new.line c.read_piece-reading.new.bytes c.read_piece-reading.new.nodes c.read_piece-reading.new.rules c.read_piece-reading.new.conns c.read_piece-reading.new.classes c.read_piece-reading.new.area c.read_piece-reading.new.room = (
-      search rules,
-      record {
-        as_line = search rules;
-        as_bytes = search rules;
-        as-nodes = search rules;
-        as-rules = search rules;
-        as-conns = search rules;
-        as-classes = search rules;
-        as-area = search rules;
-        as_room = search rules;
-      },
-    ) in
-    (alike-on c.loop-turns.invariant.2 (piece-alike).1).as-classes
+    let above = goal.at.shape_of-classes-in-Ends c in
+    (alike-on c.loop-turns.invariant.2 (piece-alike above.After-read_piece-reading).1).as-classes
 
 pub shape_of-area-in-Ends : goal.shape_of-area-in-Ends
 shape_of-area-in-Ends c =
-    let piece-alike : let m = c.loop-turns in
-    (length c.read_piece-reading.new.piece ≡ length m.piece)
-    × Alike m.line m.bytes m.nodes m.rules m.conns m.classes m.area m.room
-    c.read_piece-reading.new.line c.read_piece-reading.new.bytes c.read_piece-reading.new.nodes c.read_piece-reading.new.rules c.read_piece-reading.new.conns c.read_piece-reading.new.classes c.read_piece-reading.new.area c.read_piece-reading.new.room = (
-      search rules,
-      record {
-        as_line = search rules;
-        as_bytes = search rules;
-        as-nodes = search rules;
-        as-rules = search rules;
-        as-conns = search rules;
-        as-classes = search rules;
-        as-area = search rules;
-        as_room = search rules;
-      },
-    ) in
-    (alike-on c.loop-turns.invariant.2 (piece-alike).1).as-area
+    let above = goal.at.shape_of-area-in-Ends c in
+    (alike-on c.loop-turns.invariant.2 (piece-alike above.After-read_piece-reading).1).as-area
 
 pub shape_of-room-in-Ends : goal.shape_of-room-in-Ends
 shape_of-room-in-Ends c =
-    let piece-alike : let m = c.loop-turns in
-    (length c.read_piece-reading.new.piece ≡ length m.piece)
-    × Alike m.line m.bytes m.nodes m.rules m.conns m.classes m.area m.room
-    c.read_piece-reading.new.line c.read_piece-reading.new.bytes c.read_piece-reading.new.nodes c.read_piece-reading.new.rules c.read_piece-reading.new.conns c.read_piece-reading.new.classes c.read_piece-reading.new.area c.read_piece-reading.new.room = (
-      search rules,
-      record {
-        as_line = search rules;
-        as_bytes = search rules;
-        as-nodes = search rules;
-        as-rules = search rules;
-        as-conns = search rules;
-        as-classes = search rules;
-        as-area = search rules;
-        as_room = search rules;
-      },
-    ) in
-    (alike-on c.loop-turns.invariant.2 (piece-alike).1).as_room
+    let above = goal.at.shape_of-room-in-Ends c in
+    (alike-on c.loop-turns.invariant.2 (piece-alike above.After-read_piece-reading).1).as_room
 
 pub returns-in-Ends : goal.returns-in-Ends
 returns-in-Ends c =
@@ -212,22 +96,7 @@ loop-turns-smaller c = omega (arith, c.loop-turns-test.true)
 
 pub loop-turns-preserved : goal.loop-turns-preserved
 loop-turns-preserved c =
-    let piece-alike : let m = c.loop-turns in
-    (length c.read_piece-reading.new.piece ≡ length m.piece)
-    × Alike m.line m.bytes m.nodes m.rules m.conns m.classes m.area m.room
-    c.read_piece-reading.new.line c.read_piece-reading.new.bytes c.read_piece-reading.new.nodes c.read_piece-reading.new.rules c.read_piece-reading.new.conns c.read_piece-reading.new.classes c.read_piece-reading.new.area c.read_piece-reading.new.room = (
-      search rules,
-      record {
-        as_line = search rules;
-        as_bytes = search rules;
-        as-nodes = search rules;
-        as-rules = search rules;
-        as-conns = search rules;
-        as-classes = search rules;
-        as-area = search rules;
-        as_room = search rules;
-      },
-    ) in
+    let above = goal.at.loop-turns-preserved c in
     let i = c.loop-turns.invariant in
     let rooms = rooms-again c.requires i.2 in
     let e = c.in-Goes.is in (
@@ -237,8 +106,8 @@ loop-turns-preserved c =
         on-since i.0.1 c.read_piece-reading.new.piece (stored c.read_piece-reading.new.nodes c.read_piece-reading.new.rules c.read_piece-reading.new.conns c.read_piece-reading.new.classes c.read_piece-reading.new.area) c.read_piece-reading.new.line
             c.read_piece-reading.result c.read_piece-reading.ensures _ e,
       ),
-      (piece-alike).0 ∙ i.1,
-      alike-on i.2 (piece-alike).1,
+      (piece-alike above.After-read_piece-reading).0 ∙ i.1,
+      alike-on i.2 (piece-alike above.After-read_piece-reading).1,
     )
 
 pub shape_of-piece : goal.shape_of-piece

@@ -6,6 +6,21 @@ use Rattle.explain.proofs.Chains.{through-ready, chain-farther, chain-on, chain-
 use borrow.Author.Rules.{rules}
 use native.Mathlib.Omega.{arith}
 use Rattle.explain.proofs.input.take_piece.Goals as goal
+use Rattle.explain.proofs.input.take_piece.Goals.{After-step}
+
+step-alike : (c : After-step) → let m = c.loop-from in
+    Alike m.line m.bytes m.nodes m.rules m.conns m.classes m.area m.room
+    c.step.new.line c.step.new.bytes c.step.new.nodes c.step.new.rules c.step.new.conns c.step.new.classes c.step.new.area c.step.new.room
+step-alike c = record {
+  as_line = search rules;
+  as_bytes = search rules;
+  as-nodes = search rules;
+  as-rules = search rules;
+  as-conns = search rules;
+  as-classes = search rules;
+  as-area = search rules;
+  as_room = search rules;
+}
 
 pub loop-from-init : goal.loop-from-init
 loop-from-init c = (here, omega arith, record { as_line = refl; as_bytes = refl; as-nodes = refl; as-rules = refl; as-conns = refl; as-classes = refl; as-area = refl; as_room = refl })
@@ -30,154 +45,55 @@ loop-from-smaller c =
 
 pub loop-from-preserved : goal.loop-from-preserved
 loop-from-preserved c =
-    let step-alike : let m = c.loop-from in
-    Alike m.line m.bytes m.nodes m.rules m.conns m.classes m.area m.room
-    c.step.new.line c.step.new.bytes c.step.new.nodes c.step.new.rules c.step.new.conns c.step.new.classes c.step.new.area c.step.new.room = record {
-      as_line = search rules;
-      as_bytes = search rules;
-      as-nodes = search rules;
-      as-rules = search rules;
-      as-conns = search rules;
-      as-classes = search rules;
-      as-area = search rules;
-      as_room = search rules;
-    } in
+    let above = goal.at.loop-from-preserved c in
     let i = c.loop-from.invariant in
     let e = c.in-Goes.is in (
       chain-on i.0 c.requires.0 c.requires.1.line c.step.new.line (stored c.step.new.nodes c.step.new.rules c.step.new.conns c.step.new.classes c.step.new.area) c.step.new.room
           c.step.result c.step.ensures.step _ _ e c.step.ensures.line_after,
       chain-within i.0 c.requires.0 c.requires.1.line c.step.new.line (stored c.step.new.nodes c.step.new.rules c.step.new.conns c.step.new.classes c.step.new.area) c.step.new.room
           c.step.result c.step.ensures.step _ _ e i.1,
-      alike-on i.2 (step-alike),
+      alike-on i.2 (step-alike above.After-step),
     )
 
 pub shape_of-line-in-Ends : goal.shape_of-line-in-Ends
 shape_of-line-in-Ends c =
-    let step-alike : let m = c.loop-from in
-    Alike m.line m.bytes m.nodes m.rules m.conns m.classes m.area m.room
-    c.step.new.line c.step.new.bytes c.step.new.nodes c.step.new.rules c.step.new.conns c.step.new.classes c.step.new.area c.step.new.room = record {
-      as_line = search rules;
-      as_bytes = search rules;
-      as-nodes = search rules;
-      as-rules = search rules;
-      as-conns = search rules;
-      as-classes = search rules;
-      as-area = search rules;
-      as_room = search rules;
-    } in
-    (alike-on c.loop-from.invariant.2 (step-alike)).as_line
+    let above = goal.at.shape_of-line-in-Ends c in
+    (alike-on c.loop-from.invariant.2 (step-alike above.After-step)).as_line
 
 pub shape_of-bytes-in-Ends : goal.shape_of-bytes-in-Ends
 shape_of-bytes-in-Ends c =
-    let step-alike : let m = c.loop-from in
-    Alike m.line m.bytes m.nodes m.rules m.conns m.classes m.area m.room
-    c.step.new.line c.step.new.bytes c.step.new.nodes c.step.new.rules c.step.new.conns c.step.new.classes c.step.new.area c.step.new.room = record {
-      as_line = search rules;
-      as_bytes = search rules;
-      as-nodes = search rules;
-      as-rules = search rules;
-      as-conns = search rules;
-      as-classes = search rules;
-      as-area = search rules;
-      as_room = search rules;
-    } in
-    (alike-on c.loop-from.invariant.2 (step-alike)).as_bytes
+    let above = goal.at.shape_of-bytes-in-Ends c in
+    (alike-on c.loop-from.invariant.2 (step-alike above.After-step)).as_bytes
 
 pub shape_of-nodes-in-Ends : goal.shape_of-nodes-in-Ends
 shape_of-nodes-in-Ends c =
-    let step-alike : let m = c.loop-from in
-    Alike m.line m.bytes m.nodes m.rules m.conns m.classes m.area m.room
-    c.step.new.line c.step.new.bytes c.step.new.nodes c.step.new.rules c.step.new.conns c.step.new.classes c.step.new.area c.step.new.room = record {
-      as_line = search rules;
-      as_bytes = search rules;
-      as-nodes = search rules;
-      as-rules = search rules;
-      as-conns = search rules;
-      as-classes = search rules;
-      as-area = search rules;
-      as_room = search rules;
-    } in
-    (alike-on c.loop-from.invariant.2 (step-alike)).as-nodes
+    let above = goal.at.shape_of-nodes-in-Ends c in
+    (alike-on c.loop-from.invariant.2 (step-alike above.After-step)).as-nodes
 
 pub shape_of-rules-in-Ends : goal.shape_of-rules-in-Ends
 shape_of-rules-in-Ends c =
-    let step-alike : let m = c.loop-from in
-    Alike m.line m.bytes m.nodes m.rules m.conns m.classes m.area m.room
-    c.step.new.line c.step.new.bytes c.step.new.nodes c.step.new.rules c.step.new.conns c.step.new.classes c.step.new.area c.step.new.room = record {
-      as_line = search rules;
-      as_bytes = search rules;
-      as-nodes = search rules;
-      as-rules = search rules;
-      as-conns = search rules;
-      as-classes = search rules;
-      as-area = search rules;
-      as_room = search rules;
-    } in
-    (alike-on c.loop-from.invariant.2 (step-alike)).as-rules
+    let above = goal.at.shape_of-rules-in-Ends c in
+    (alike-on c.loop-from.invariant.2 (step-alike above.After-step)).as-rules
 
 pub shape_of-conns-in-Ends : goal.shape_of-conns-in-Ends
 shape_of-conns-in-Ends c =
-    let step-alike : let m = c.loop-from in
-    Alike m.line m.bytes m.nodes m.rules m.conns m.classes m.area m.room
-    c.step.new.line c.step.new.bytes c.step.new.nodes c.step.new.rules c.step.new.conns c.step.new.classes c.step.new.area c.step.new.room = record {
-      as_line = search rules;
-      as_bytes = search rules;
-      as-nodes = search rules;
-      as-rules = search rules;
-      as-conns = search rules;
-      as-classes = search rules;
-      as-area = search rules;
-      as_room = search rules;
-    } in
-    (alike-on c.loop-from.invariant.2 (step-alike)).as-conns
+    let above = goal.at.shape_of-conns-in-Ends c in
+    (alike-on c.loop-from.invariant.2 (step-alike above.After-step)).as-conns
 
 pub shape_of-classes-in-Ends : goal.shape_of-classes-in-Ends
 shape_of-classes-in-Ends c =
-    let step-alike : let m = c.loop-from in
-    Alike m.line m.bytes m.nodes m.rules m.conns m.classes m.area m.room
-    c.step.new.line c.step.new.bytes c.step.new.nodes c.step.new.rules c.step.new.conns c.step.new.classes c.step.new.area c.step.new.room = record {
-      as_line = search rules;
-      as_bytes = search rules;
-      as-nodes = search rules;
-      as-rules = search rules;
-      as-conns = search rules;
-      as-classes = search rules;
-      as-area = search rules;
-      as_room = search rules;
-    } in
-    (alike-on c.loop-from.invariant.2 (step-alike)).as-classes
+    let above = goal.at.shape_of-classes-in-Ends c in
+    (alike-on c.loop-from.invariant.2 (step-alike above.After-step)).as-classes
 
 pub shape_of-area-in-Ends : goal.shape_of-area-in-Ends
 shape_of-area-in-Ends c =
-    let step-alike : let m = c.loop-from in
-    Alike m.line m.bytes m.nodes m.rules m.conns m.classes m.area m.room
-    c.step.new.line c.step.new.bytes c.step.new.nodes c.step.new.rules c.step.new.conns c.step.new.classes c.step.new.area c.step.new.room = record {
-      as_line = search rules;
-      as_bytes = search rules;
-      as-nodes = search rules;
-      as-rules = search rules;
-      as-conns = search rules;
-      as-classes = search rules;
-      as-area = search rules;
-      as_room = search rules;
-    } in
-    (alike-on c.loop-from.invariant.2 (step-alike)).as-area
+    let above = goal.at.shape_of-area-in-Ends c in
+    (alike-on c.loop-from.invariant.2 (step-alike above.After-step)).as-area
 
 pub shape_of-room-in-Ends : goal.shape_of-room-in-Ends
 shape_of-room-in-Ends c =
-    let step-alike : let m = c.loop-from in
-    Alike m.line m.bytes m.nodes m.rules m.conns m.classes m.area m.room
-    c.step.new.line c.step.new.bytes c.step.new.nodes c.step.new.rules c.step.new.conns c.step.new.classes c.step.new.area c.step.new.room = record {
-      as_line = search rules;
-      as_bytes = search rules;
-      as-nodes = search rules;
-      as-rules = search rules;
-      as-conns = search rules;
-      as-classes = search rules;
-      as-area = search rules;
-      as_room = search rules;
-    } in
-    (alike-on c.loop-from.invariant.2 (step-alike)).as_room
+    let above = goal.at.shape_of-room-in-Ends c in
+    (alike-on c.loop-from.invariant.2 (step-alike above.After-step)).as_room
 
 pub returns-in-Ends : goal.returns-in-Ends
 returns-in-Ends c =
