@@ -3,10 +3,10 @@ use Prim.Native.Nat.{ℕ}
 use mathlib.Core.List.{List}
 use mathlib.Core.Logic.{◌↔◌}
 use mathlib.Core.Path.{◌≡◌}
-use Rattle.model.specs.declared.Verdict.TheVariants.{Accepted}
+use Rattle.std.specs.Prelude.{Ok}
 use Rattle.model.specs.Rule.{Rule}
 use Rattle.model.specs.Verdict.{verdict, Proves}
 use Rattle.checker.proofs.Verdicts.{verdict-sound, verdict-complete}
 
-pub demand-2 : (rs : List Rule) (ws : List ℕ) (n : ℕ) → (verdict rs ws ≡ Accepted n) ↔ Proves rs ws n
+pub demand-2 : (rs : List Rule) (ws : List ℕ) (n : ℕ) → (verdict rs ws ≡ Ok n) ↔ Proves rs ws n
 demand-2 rs ws n = (verdict-sound rs ws n, verdict-complete rs ws n)

@@ -5,7 +5,7 @@ use mathlib.Core.List.{List, [], ◌∷◌}
 use mathlib.Core.Logic.{◌↔◌}
 use mathlib.Core.Path.{◌≡◌, refl, sym, ◌∙◌, ap, ap₂, subst}
 use lib.ListN.{length}
-use Rattle.model.specs.declared.Verdict.TheVariants.{Accepted}
+use Rattle.std.specs.Prelude.{Ok}
 use Rattle.model.specs.Limits.{term_limit, word_limit}
 use Rattle.model.specs.Term.{Terms, no_terms, tree, put, one, count, marks, Reads}
 use Rattle.model.specs.Rule.{Rule}
@@ -94,7 +94,7 @@ rewriting-proves rs ws n x =
     }
 
 -- An accepted proof of n terms is exactly a chain of n - 1 rewrites of the book.
-pub rewriting : (rs : List Rule) (ws : List ℕ) (n : ℕ) → (verdict rs ws ≡ Accepted n) ↔ Rewriting rs ws n
+pub rewriting : (rs : List Rule) (ws : List ℕ) (n : ℕ) → (verdict rs ws ≡ Ok n) ↔ Rewriting rs ws n
 rewriting rs ws n = (
   λ h. let p = (demand-2 rs ws n).0 h in strict-rewriting rs ws n p.terms p.form p.counted p.few_words p.few_terms p.strict,
   λ x. (demand-2 rs ws n).1 (rewriting-proves rs ws n x),

@@ -10,7 +10,7 @@ use native.Mathlib.Omega.{arith}
 use lib.ListN.{length}
 use Rattle.model.specs.declared.Direction.{Direction}
 use Rattle.model.specs.declared.Direction.TheVariants.{Forward, Backward}
-use Rattle.model.specs.Judged.{good}
+use Rattle.model.specs.Judged.{good, Judgement}
 use Rattle.model.specs.Limits.{flat_words}
 use Rattle.model.specs.Term.{Mark, unmarked, marked, Terms, no_terms, tree, Term, one, count, size, marks, direction_word}
 use Rattle.model.specs.Rule.{Rule, listed, is_listed}
@@ -193,7 +193,7 @@ step-known rws ws before at nodes end w r f rs are e e' s t hs ht =
     f rs are
     ∙ (λ i. step rs (one (term-same ws before at e w.earlier s w.is_e hs i)) (one (term-same ws at end e' w.later t w.is_l ht i)))
 
-pub fault-known : (rws ws : List ℕ) (before at nodes end : ℕ) (w : Marked ws before at nodes end) (r : ℕ)
+pub fault-known : (rws ws : List ℕ) (before at nodes end : ℕ) (w : Marked ws before at nodes end) (r : Judgement)
     → ((rs : List Rule) → rule_table rws ≡ good rs → r ≡ fault_of rs (one w.earlier) (one w.later)) → FaultIs rws ws before at r
 fault-known rws ws before at nodes end w r f rs are e e' s t hs ht =
     f rs are

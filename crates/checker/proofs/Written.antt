@@ -8,7 +8,7 @@ use mathlib.Core.Path.{◌≡◌, refl, sym, ◌∙◌, ap, ap₂, subst}
 use native.Mathlib.Omega.{arith}
 use lib.ListN.{length}
 use Rattle.model.specs.declared.Direction.{Direction}
-use Rattle.model.specs.declared.Verdict.TheVariants.{Accepted}
+use Rattle.std.specs.Prelude.{Ok}
 use Rattle.model.specs.Limits.{term_limit, word_limit}
 use Rattle.model.specs.Term.{Mark, unmarked, marked, Terms, no_terms, tree, Term, put, one, count, join, strip, stripped, mark_count, marks, Narrow, size, words, Reads}
 use Rattle.model.specs.Rule.{Rule}
@@ -122,7 +122,7 @@ chain-written rs s (m ∷ ms) (tree o x k f) h =
     )
 
 -- THE THEOREM
-pub written-down : (rs : List Rule) (ws : List ℕ) (n : ℕ) → (verdict rs ws ≡ Accepted n) ↔ Written rs ws n
+pub written-down : (rs : List Rule) (ws : List ℕ) (n : ℕ) → (verdict rs ws ≡ Ok n) ↔ Written rs ws n
 written-down rs ws n = (λ h. told ((rewriting rs ws n).0 h), λ w. (rewriting rs ws n).1 (read_off w))
   where
     told : Rewriting rs ws n → Written rs ws n
@@ -156,7 +156,7 @@ written-down rs ws n = (λ h. told ((rewriting rs ws n).0 h), λ w. (rewriting r
 -- So every chain of the book whose terms keep the limits is accepted, written down; marks play no part in the limits.
 pub written-accepted : (rs : List Rule) (t : Term) (xs : List Next) → strip (one t) ≡ one t → Leads rs (one t) xs
     → Narrow (put t (terms_of xs)) → length (words (put t (terms_of xs))) ≤ word_limit → suc (length xs) ≤ term_limit
-    → verdict rs (words (put t (written_row xs))) ≡ Accepted (suc (length xs))
+    → verdict rs (words (put t (written_row xs))) ≡ Ok (suc (length xs))
 unfolding join
 written-accepted rs t xs e h narrow few few_terms =
     let f : Terms = put t (written_row xs) in

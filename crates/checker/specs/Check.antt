@@ -1,39 +1,35 @@
 -- What the checker's parts answer, over an accepted rule table whose rules are rs.
 -- Assumes nothing.
-use Rattle.std.specs.Prelude.{ℕ, Bool, true, false, not, List, ◌≡◌, eqb}
+use Rattle.std.specs.Prelude.{ℕ, Bool, true, false, not, List, ◌≡◌, eqb, Result, Ok, Err}
 use Rattle.std.proofs.Math.Option.{some}
+use Rattle.model.specs.declared.Refusal.{Refusal}
+use Rattle.model.specs.declared.Refusal.TheVariants.{NotOneMark, RuleUnlisted, NoStep}
 use Rattle.model.specs.declared.Direction.{Direction}
-use Rattle.model.specs.declared.Verdict.{Verdict}
-use Rattle.model.specs.declared.Verdict.TheVariants.{Accepted}
-use Rattle.model.specs.Judged.{good}
+use Rattle.model.specs.Judged.{good, Judgement}
 use Rattle.model.specs.Term.{marked, Terms, no_terms, tree, Term, one, marks}
 use Rattle.model.specs.Pattern.{fits}
 use Rattle.model.specs.Rule.{Rule}
 use Rattle.model.specs.Tables.{rule_entry, rule_table}
 use Rattle.model.specs.Step.{left_of, right_of, step, unlisted}
-use Rattle.model.specs.Verdict.{chain_verdict, terms_verdict, verdict}
+use Rattle.model.specs.Verdict.{Verdict, chain_verdict, terms_verdict, verdict}
 use Rattle.terms.specs.Place.{TermAt, RowAt, EndsAt}
 use Rattle.marks.specs.Marks.{OneAt}
-use Rattle.matching.specs.declared.Fit.{Fit}
-use Rattle.matching.specs.Match.{is_fit}
-use Rattle.checker.specs.declared.Following.{Following}
-use Rattle.checker.specs.declared.Following.TheVariants.{Ends, Fault}
 
 -- r says whether the rule of entry i makes the term at a its left side and the term at b its right side
-abbrev pub EntryFits : List ℕ → ℕ → List ℕ → ℕ → ℕ → Fit → Type 0
+abbrev pub EntryFits : List ℕ → ℕ → List ℕ → ℕ → ℕ → Bool → Type 0
 EntryFits rws i ws a b r =
     (x : Rule) → rule_entry rws i ≡ some x → (e e' : ℕ) (t u : Term) → TermAt ws a e t → TermAt ws b e' u
-    → is_fit r ≡ fits x.left x.right (one t) (one u)
+    → r ≡ fits x.left x.right (one t) (one u)
 
 -- whether a rule, read one way, allows a term t to follow a term s
 abbrev pub fits_by : Rule → Direction → Terms → Terms → Bool
 fits_by x d s t = fits x.left x.right (left_of d s t) (right_of d s t)
 
 -- and whether, read as the mark at its root says, it allows the term at b to follow the term at a
-abbrev pub MarkFits : List ℕ → ℕ → List ℕ → ℕ → ℕ → Fit → Type 0
+abbrev pub MarkFits : List ℕ → ℕ → List ℕ → ℕ → ℕ → Bool → Type 0
 MarkFits rws i ws a b r =
     (x : Rule) → rule_entry rws i ≡ some x → (e e' : ℕ) (t u : Term) → TermAt ws a e t → TermAt ws b e' u
-    → (d : Direction) (n : ℕ) → u.mark ≡ marked d n → is_fit r ≡ fits_by x d (one t) (one u)
+    → (d : Direction) (n : ℕ) → u.mark ≡ marked d n → r ≡ fits_by x d (one t) (one u)
 
 -- a term from `at` to `end` with one mark, behind so many nodes, stands behind a term
 pub record Marked (ws : List ℕ) (before at nodes end : ℕ) : Type 0 where
@@ -49,28 +45,28 @@ StepIs rws ws a b r =
     (rs : List Rule) → rule_table rws ≡ good rs → (e e' : ℕ) (t u : Term) → TermAt ws a e t → TermAt ws b e' u
     → r ≡ step rs (one t) (one u)
 
--- by 15, 16, 17 in this order: the first that holds, or 0
-abbrev pub fault_if : Bool → ℕ → ℕ → ℕ
-fault_if true n f = n
-fault_if false n f = f
+-- by 15, 16, 17 in this order: the first that holds, if one does
+abbrev pub fault_if : Bool → Refusal → Judgement → Judgement
+fault_if true r j = Err r
+fault_if false r j = j
 
-unfoldable pub fault_of : List Rule → Terms → Terms → ℕ
+unfoldable pub fault_of : List Rule → Terms → Terms → Judgement
 unfolding step marks unlisted
-fault_of rs s t = fault_if (not (eqb (marks t) 1)) 15 (fault_if (unlisted rs t) 16 (fault_if (not (step rs s t)) 17 0))
+fault_of rs s t = fault_if (not (eqb (marks t) 1)) NotOneMark (fault_if (unlisted rs t) RuleUnlisted (fault_if (not (step rs s t)) NoStep (Ok tt)))
 
-abbrev pub FaultIs : List ℕ → List ℕ → ℕ → ℕ → ℕ → Type 0
+abbrev pub FaultIs : List ℕ → List ℕ → ℕ → ℕ → Judgement → Type 0
 FaultIs rws ws before at r =
     (rs : List Rule) → rule_table rws ≡ good rs → (e e' : ℕ) (s t : Term) → TermAt ws before e s → TermAt ws at e' t
     → r ≡ fault_of rs (one s) (one t)
 
 -- a later term has no fault, and ends there; or it has one
-abbrev pub FollowsIs : List ℕ → List ℕ → ℕ → ℕ → Following → Type 0
-FollowsIs rws ws before at (Ends e) = EndsAt ws at e × FaultIs rws ws before at 0
-FollowsIs rws ws before at (Fault n) = (n ≡ 0 → ⊥) × FaultIs rws ws before at n
+abbrev pub FollowsIs : List ℕ → List ℕ → ℕ → ℕ → Result ℕ Refusal → Type 0
+FollowsIs rws ws before at (Ok e) = EndsAt ws at e × FaultIs rws ws before at (Ok tt)
+FollowsIs rws ws before at (Err r) = FaultIs rws ws before at (Err r)
 
 -- the verdict on the later terms of a row, and on the row
 abbrev pub chain_of : List Rule → Terms → Verdict
-chain_of rs no_terms = Accepted 0
+chain_of rs no_terms = Ok 0
 chain_of rs (tree o m k f) = chain_verdict rs 1 (tree o m k no_terms) f
 
 abbrev pub ChainIs : List ℕ → List ℕ → ℕ → Verdict → Type 0

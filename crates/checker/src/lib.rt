@@ -2,22 +2,18 @@
 // and the step from the term before (17): the rule at the mark, and everything before it and behind it the same. Terms are walked flat.
 #![tactic(auto)]
 
-ghost use Rattle.std.specs.Prelude.{◌≡◌, ◌+◌, ◌*◌, ◌<◌};
+ghost use Rattle.std.specs.Prelude.{◌≡◌, ◌+◌, ◌*◌, ◌<◌, Some};
 ghost use Rattle.model.specs.Limits.{flat_words};
 ghost use Rattle.terms.specs.Place.{node_of, Well, EndsAt};
 ghost use Rattle.marks.specs.Marks.{HasRow};
 ghost use Rattle.rule_table.specs.Entries.{AcceptedRules, HasRule, where_listed};
-ghost use Rattle.rule_table.specs.declared.Listed.TheVariants.{At};
 ghost use Rattle.checker.specs.Check.{EntryFits, MarkFits, Marked, StepIs, FaultIs, FollowsIs, ChainIs, TermsIs, VerdictIs};
 
 use marks::OneMark;
-use matching::Fit;
-use model::{FLAT_WORDS, TERM_LIMIT, Verdict, WORD_LIMIT};
-use rule_table::Listed;
-use terms::WholeTerms;
+use model::{FLAT_WORDS, Judgement, Refusal, Rejection, TERM_LIMIT, Verdict, WORD_LIMIT};
 
 // Whether the rule of entry `i` makes the term at `a` its left side and the term at `b` its right side.
-fn entry_fits(rules: &[u16], i: usize, words: &[u16], a: usize, b: usize) -> Fit
+fn entry_fits(rules: &[u16], i: usize, words: &[u16], a: usize, b: usize) -> bool
     requires has_rule { HasRule rules.now i }
     requires well { Well words.now a }
     requires well_2 { Well words.now b }
@@ -29,101 +25,73 @@ fn entry_fits(rules: &[u16], i: usize, words: &[u16], a: usize, b: usize) -> Fit
 }
 
 // Whether the rule of entry `i` allows the term at `b`, whose root is marked, to follow the term at `a`: read as the mark says.
-fn mark_fits(rules: &[u16], i: usize, words: &[u16], a: usize, b: usize) -> Fit
+fn mark_fits(rules: &[u16], i: usize, words: &[u16], a: usize, b: usize) -> bool
     requires has_rule { HasRule rules.now i }
     requires well { Well words.now a }
     requires well_2 { Well words.now b }
     ensures { MarkFits rules.now i words.now a b result }
 {
     let n = terms::node_at(words, b);
-    let mark = n.mark;
-    match mark {
+    match n.mark {
         1 => entry_fits(rules, i, words, a, b),
         2 => entry_fits(rules, i, words, b, a),
-        _ => Fit::Off,
+        _ => false,
     }
 }
 
-// Whether the term from `at` to `end`, whose one mark stands behind `nodes` nodes and names the rule of entry `i`, is a step from the
-// term at `before`: the nodes before the mark agree, the rule allows what stands there, and the nodes behind it agree.
-fn step_by(
-    rules: &[u16],
-    i: usize,
-    words: &[u16],
-    before: usize,
-    at: usize,
-    nodes: usize,
-    end: usize,
-) -> bool
+// Whether the term at `at`, whose one mark names the rule of entry `i`, is a step from the term at `before`: the nodes before the mark
+// agree, the rule allows what stands there, and the nodes behind it agree.
+fn step_by(rules: &[u16], i: usize, words: &[u16], before: usize, at: usize, mark: OneMark) -> bool
     requires accepted_rules { AcceptedRules rules.now }
-    requires marked { Marked words.now before at nodes end }
-    requires nodes_value { where_listed rules.now (node_of words.now (at + flat_words * nodes)).rule.0 ≡ At i }
+    requires marked { Marked words.now before at mark.nodes mark.end }
+    requires nodes_value { where_listed rules.now (node_of words.now (at + flat_words * mark.nodes)).rule.0 ≡ Some i }
     ensures { StepIs rules.now words.now before at result }
 {
-    if !terms::same_nodes(words, before, at, nodes) {
+    if !terms::same_nodes(words, before, at, mark.nodes) {
         return false;
     }
-    let a = before + FLAT_WORDS * nodes;
-    let b = at + FLAT_WORDS * nodes;
-    let fit = mark_fits(rules, i, words, a, b);
-    match fit {
-        Fit::Fits => {
-            let x = terms::end_of(words, a);
-            let y = terms::end_of(words, b);
-            terms::same_nodes(words, x, y, (end - y) / FLAT_WORDS)
-        }
-        Fit::Off => false,
+    let a = before + FLAT_WORDS * mark.nodes;
+    let b = at + FLAT_WORDS * mark.nodes;
+    let fits = mark_fits(rules, i, words, a, b);
+    if fits {
+        let x = terms::end_of(words, a);
+        let y = terms::end_of(words, b);
+        terms::same_nodes(words, x, y, (mark.end - y) / FLAT_WORDS)
+    } else {
+        false
     }
 }
 
-// Why the term from `at` to `end`, whose one mark stands behind `nodes` nodes, may not follow the term at `before`: 16 or 17, the first
-// that holds; 0 where it may.
-fn mark_fault(
-    rules: &[u16],
-    words: &[u16],
-    before: usize,
-    at: usize,
-    nodes: usize,
-    end: usize,
-) -> u16
+// Why the term at `at`, which has one mark, may not follow the term at `before`: 16 or 17, the first that holds, if one does.
+fn mark_fault(rules: &[u16], words: &[u16], before: usize, at: usize, mark: OneMark) -> Judgement
     requires accepted_rules { AcceptedRules rules.now }
-    requires marked { Marked words.now before at nodes end }
+    requires marked { Marked words.now before at mark.nodes mark.end }
     ensures { FaultIs rules.now words.now before at result }
 {
-    let n = terms::node_at(words, at + FLAT_WORDS * nodes);
+    let n = terms::node_at(words, at + FLAT_WORDS * mark.nodes);
     let found = rule_table::find_rule(rules, n.rule);
-    let Listed::At(i) = found else {
-        return 16;
+    let Some(i) = found else {
+        return Err(Refusal::RuleUnlisted);
     };
-    if !step_by(rules, i, words, before, at, nodes, end) {
-        return 17;
+    if !step_by(rules, i, words, before, at, mark) {
+        return Err(Refusal::NoStep);
     }
-    0
+    Ok(())
 }
 
-// What became of a later term: it ends there and may follow the one before, or a fault.
-#[derive(Clone, Copy)]
-enum Following {
-    Ends(usize),
-    Fault(u16),
-}
-
-// Whether the term at `at` may follow the term from `before` up to it: 15, 16 or 17, the first that holds, or where it ends.
-fn later_fault(rules: &[u16], words: &[u16], before: usize, at: usize) -> Following
+// Where the term at `at` ends, if it may follow the term from `before` up to it; else 15, 16 or 17, the first that holds.
+fn later_fault(rules: &[u16], words: &[u16], before: usize, at: usize) -> Result<usize, Refusal>
     requires accepted_rules { AcceptedRules rules.now }
     requires ends_at { EndsAt words.now before at }
     requires well { Well words.now at }
     ensures { FollowsIs rules.now words.now before at result }
 {
     let found = marks::one_mark(words, at);
-    let OneMark::Behind { nodes, end } = found else {
-        return Following::Fault(15);
+    let Some(mark) = found else {
+        return Err(Refusal::NotOneMark);
     };
-    let fault = mark_fault(rules, words, before, at, nodes, end);
-    if fault != 0 {
-        return Following::Fault(fault);
-    }
-    Following::Ends(end)
+    mark_fault(rules, words, before, at, mark)?;
+    Ok(mark.end)
 }
 
 // The verdict on the later ones of n terms, each judged behind the one before it.
@@ -135,21 +103,19 @@ fn later_terms(rules: &[u16], words: &[u16], n: usize) -> Verdict
 {
     let mut before: usize = 0;
     let mut at = terms::end_of(words, 0);
-    let mut k: usize = 1;
-    while k < n {
+    for k in 1..n {
         let judged = later_fault(rules, words, before, at);
         match judged {
-            Following::Ends(e) => {
+            Ok(e) => {
                 before = at;
                 at = e;
-                k += 1;
             }
-            Following::Fault(fault) => {
-                return Verdict::Rejected(fault, k);
+            Err(refusal) => {
+                return Err(Rejection { refusal, place: k });
             }
         }
     }
-    Verdict::Accepted(n)
+    Ok(n)
 }
 
 // The verdict on n whole terms: 19 for terms, 14, then the later ones.
@@ -160,10 +126,10 @@ fn terms_verdict(rules: &[u16], words: &[u16], n: usize) -> Verdict
     ensures { TermsIs rules.now words.now n result }
 {
     if n > TERM_LIMIT {
-        return Verdict::Rejected(19, 0);
+        return Err(Refusal::TooLong.into());
     }
     if marks::marked(words, 0, 1) {
-        return Verdict::Rejected(14, 0);
+        return Err(Refusal::FirstMarked.into());
     }
     later_terms(rules, words, n)
 }
@@ -174,14 +140,11 @@ pub fn check(rules: &[u16], words: &[u16]) -> Verdict
     ensures { VerdictIs rules.now words.now result }
 {
     if words.len() > WORD_LIMIT {
-        return Verdict::Rejected(19, 0);
+        return Err(Refusal::TooLong.into());
     }
-    if words.len() == 0 {
-        return Verdict::Rejected(12, 0);
+    if words.is_empty() {
+        return Err(Refusal::NoWords.into());
     }
-    let whole = terms::whole_terms(words);
-    match whole {
-        WholeTerms::Count(n) => terms_verdict(rules, words, n),
-        WholeTerms::Broken => Verdict::Rejected(13, 0),
-    }
+    let n = terms::whole_terms(words).ok_or(Refusal::NoTerms)?;
+    terms_verdict(rules, words, n)
 }

@@ -3,7 +3,7 @@ use mathlib.Core.Bool.{Bool}
 use mathlib.Core.Path.{◌≡◌, sym, ◌∙◌}
 use contract.Lifetimes.{Lfts}
 use Rattle.model.specs.declared.Connection.{Connection}
-use Rattle.model.specs.declared.Judgement.{Judgement}
+use Rattle.model.specs.Judged.{Judgement}
 use Rattle.connections.proofs.connection_at.Reads as connection-at
 use Rattle.connections.proofs.entry_whole.Reads as entry_whole
 use Rattle.connections.proofs.part.Reads as part

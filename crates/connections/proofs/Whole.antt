@@ -7,7 +7,8 @@ use native.Mathlib.Nat.{le-div_iff_mul-le, div-eq_of_lt-le}
 use native.Mathlib.Numerals.{add-one}
 use lib.ListN.{length}
 use Rattle.model.specs.declared.Connection.{Connection}
-use Rattle.model.specs.declared.Judgement.TheVariants.{Taken, Faulty}
+use Rattle.std.proofs.Common.{Ok, Err}
+use Rattle.model.specs.declared.Refusal.{Refusal}
 use Rattle.model.specs.Limits.{node_limit}
 use Rattle.model.specs.Judged.{Judged, good, bad, judgement_of}
 use Rattle.model.specs.Forest.{cur, nxt}
@@ -52,11 +53,11 @@ module _ {nws conns classes : List ℕ} {age : ℕ} (w : NodesWhole nws) (b : So
   next-is : connections_to (nodes_of nws) conns (suc age) ≡ judged
   next-is = one_more (add_connection (nodes_of nws)) (connection_entry conns) [] age b.table
 
-  pub sofar-bad : (m : ℕ) → age * connection_words < length conns → Faulty m ≡ judgement_of judged → connection_table (nodes_of nws) conns ≡ bad m
+  pub sofar-bad : (r : Refusal) → age * connection_words < length conns → Err r ≡ judgement_of judged → connection_table (nodes_of nws) conns ≡ bad r
   unfolding connection_table
-  sofar-bad m h p =
-      first-bad (add_connection (nodes_of nws)) (connection_entry conns) [] (suc age) ((length conns + (connection_words - 1)) / connection_words) m
-      ((le-div_iff_mul-le (omega arith)).1 (omega arith)) (next-is ∙ faulty-bad judged m p)
+  sofar-bad r h p =
+      first-bad (add_connection (nodes_of nws)) (connection_entry conns) [] (suc age) ((length conns + (connection_words - 1)) / connection_words) r
+      ((le-div_iff_mul-le (omega arith)).1 (omega arith)) (next-is ∙ faulty-bad judged r p)
 
   -- where it was accepted, both its ends are nodes and it stands in the table
   pub record Onward : Type 0 where
@@ -65,7 +66,7 @@ module _ {nws conns classes : List ℕ} {age : ℕ} (w : NodesWhole nws) (b : So
     pub next : nxt (connection_in conns age) < length classes
     pub table : connections_to (nodes_of nws) conns (suc age) ≡ good (oldest (suc age) conns)
 
-  pub sofar-onward : Taken ≡ judgement_of judged → Onward
+  pub sofar-onward : Ok tt ≡ judgement_of judged → Onward
   unfolding oldest
   sofar-onward p =
       let g = taken-good judged p in
@@ -80,7 +81,7 @@ module _ {nws conns classes : List ℕ} {age : ℕ} (w : NodesWhole nws) (b : So
         table = q ∙ ap good c.is;
       }
 
-  pub sofar-more : {new : List ℕ} → Taken ≡ judgement_of judged →
+  pub sofar-more : {new : List ℕ} → Ok tt ≡ judgement_of judged →
       new ≡ classes_joined classes (cur (connection_in conns age)) (nxt (connection_in conns age)) → Sofar nws conns new (age + 1)
   unfolding oldest
   sofar-more {new} p e =

@@ -3,7 +3,7 @@
 use Rattle.std.specs.Prelude.{ℕ, zero, suc, ◌*◌, ◌/◌, ◌<◌, Bool, cond, ◌&&◌, List, [], ◌∷◌, ◌++◌, map, ◌≡◌, eqb, length, get_or}
 use Rattle.std.proofs.Math.Option.{some}
 use Rattle.model.specs.declared.Connection.{Connection}
-use Rattle.model.specs.declared.Judgement.{Judgement}
+use Rattle.model.specs.Judged.{Judgement}
 use Rattle.model.specs.Judged.{good, judgement_of}
 use Rattle.model.specs.Forest.{root}
 use Rattle.model.specs.Term.{same_op}

@@ -15,7 +15,7 @@ ghost use Rattle.connections.specs.Classes.{up_to, renamed, classes_joined, same
 
 use model::{
     BY_RULE_AT, CONNECTION_WORDS, Connection, Direction, FORWARD_AT, Judgement, Justification,
-    NEXT_AT, NODE_LIMIT, NODE_WORDS, NodeNo, RuleNo, WHY_AT, same_op, wide, word,
+    NEXT_AT, NODE_LIMIT, NODE_WORDS, NodeNo, Refusal, RuleNo, WHY_AT, word,
 };
 use nodes::{child_of, count_of, operator_of};
 
@@ -37,21 +37,14 @@ pub fn connection_at(conns: &[u16], age: usize) -> Connection
     let base = age * CONNECTION_WORDS;
     let current = NodeNo(word(conns, base, 0));
     let next = NodeNo(word(conns, base, NEXT_AT));
-    match word(conns, base, WHY_AT) {
-        0 => Connection {
-            current,
-            next,
-            why: Justification::Congruence,
-        },
-        _ => Connection {
-            current,
-            next,
-            why: Justification::Rule(
-                RuleNo(word(conns, base, BY_RULE_AT)),
-                direction_of(word(conns, base, FORWARD_AT)),
-            ),
-        },
-    }
+    let why = match word(conns, base, WHY_AT) {
+        0 => Justification::Congruence,
+        _ => Justification::Rule(
+            RuleNo(word(conns, base, BY_RULE_AT)),
+            direction_of(word(conns, base, FORWARD_AT)),
+        ),
+    };
+    Connection { current, next, why }
 }
 
 // Whether the entry of an age is there whole and its fields are in their sets.
@@ -82,7 +75,7 @@ fn class_of(classes: &[u16], n: NodeNo) -> u16
     requires { n.0 < length classes.now }
     ensures { result ≡ get_or classes.now n.0 0 }
 {
-    classes[wide(n.0)]
+    classes[usize::from(n.0)]
 }
 
 // Whether two nodes are joined: their classes have one top.
@@ -98,10 +91,8 @@ pub fn part(classes: &mut [u16])
     requires { length classes.old ≤ node_limit }
     ensures { classes.new ≡ up_to (length classes.old) }
 {
-    let mut i: usize = 0;
-    while i < classes.len() {
+    for i in 0..classes.len() {
         classes[i] = i as u16;
-        i += 1;
     }
 }
 
@@ -119,10 +110,8 @@ pub fn join(classes: &mut [u16], a: NodeNo, b: NodeNo)
 {
     let from = class_of(classes, a);
     let to = class_of(classes, b);
-    let mut i: usize = 0;
-    while i < classes.len() {
+    for i in 0..classes.len() {
         classes[i] = rename(from, to, classes[i]);
-        i += 1;
     }
 }
 
@@ -132,13 +121,10 @@ fn children_joined(nodes: &[u16], classes: &[u16], a: NodeNo, b: NodeNo) -> bool
     requires a_value { count_in nodes.now a.0 ≡ count_in nodes.now b.0 }
     ensures { result ≡ pairs_joined (same_class classes.now) (children_in nodes.now a.0) (children_in nodes.now b.0) }
 {
-    let n = count_of(nodes, a);
-    let mut i: usize = 0;
-    while i < n {
+    for i in 0..count_of(nodes, a) {
         if !joined(classes, child_of(nodes, a, i), child_of(nodes, b, i)) {
             return false;
         }
-        i += 1;
     }
     true
 }
@@ -148,7 +134,7 @@ fn supports(nodes: &[u16], classes: &[u16], a: NodeNo, b: NodeNo) -> bool
     requires { NodesStand nodes.now (length classes.now) × (a.0 < length classes.now) × (b.0 < length classes.now) }
     ensures { result ≡ support_by nodes.now classes.now a.0 b.0 }
 {
-    if !same_op(operator_of(nodes, a), operator_of(nodes, b)) {
+    if operator_of(nodes, a) != operator_of(nodes, b) {
         return false;
     }
     if count_of(nodes, a) != count_of(nodes, b) {
@@ -157,7 +143,7 @@ fn supports(nodes: &[u16], classes: &[u16], a: NodeNo, b: NodeNo) -> bool
     children_joined(nodes, classes, a, b)
 }
 
-// Judges a connection behind those that the classes belong to: 6, then 7. A node that has a parent is not its class's top.
+// Judges a connection behind those that the classes belong to: its ends, then a congruence's support. A node that has a parent is not its class's top.
 fn judge_connection(nodes: &[u16], classes: &[u16], c: Connection) -> Judgement
     requires { NodesWhole nodes.now × (length classes.now ≡ length nodes.now / node_words) }
     ensures { JudgedBy nodes.now classes.now c result }
@@ -165,26 +151,25 @@ fn judge_connection(nodes: &[u16], classes: &[u16], c: Connection) -> Judgement
     let a = c.current;
     let b = c.next;
     let n = classes.len();
-    if n <= wide(a.0) {
-        return Judgement::Faulty(6);
+    if n <= usize::from(a.0) {
+        return Err(Refusal::EndsUnfit);
     }
-    if n <= wide(b.0) {
-        return Judgement::Faulty(6);
+    if n <= usize::from(b.0) {
+        return Err(Refusal::EndsUnfit);
     }
     if class_of(classes, a) != a.0 {
-        return Judgement::Faulty(6);
+        return Err(Refusal::EndsUnfit);
     }
     if joined(classes, a, b) {
-        return Judgement::Faulty(6);
+        return Err(Refusal::EndsUnfit);
     }
-    let why = c.why;
-    match why {
-        Justification::Rule(_, _) => Judgement::Taken,
+    match c.why {
+        Justification::Rule(_, _) => Ok(()),
         Justification::Congruence => {
             if supports(nodes, classes, a, b) {
-                Judgement::Taken
+                Ok(())
             } else {
-                Judgement::Faulty(7)
+                Err(Refusal::NoSupport)
             }
         }
     }
@@ -197,7 +182,7 @@ pub fn judge_entry(nodes: &[u16], classes: &[u16], conns: &[u16], age: usize) ->
     ensures { result ≡ judgement_of (add_connection (nodes_of nodes.now) (oldest age conns.now) (connection_entry conns.now age)) }
 {
     if !entry_whole(conns, age) {
-        return Judgement::Faulty(2);
+        return Err(Refusal::NoEntry);
     }
     judge_connection(nodes, classes, connection_at(conns, age))
 }
@@ -208,17 +193,12 @@ fn judge_ages(nodes: &[u16], conns: &[u16], classes: &mut [u16]) -> Judgement
     ensures { result ≡ judgement_of (connection_table (nodes_of nodes.now) conns.now) }
 {
     part(classes);
-    let mut age: usize = 0;
-    while age * CONNECTION_WORDS < conns.len() {
-        let judged = judge_entry(nodes, classes, conns, age);
-        if let Judgement::Faulty(number) = judged {
-            return Judgement::Faulty(number);
-        }
+    for age in 0..conns.len().div_ceil(CONNECTION_WORDS) {
+        judge_entry(nodes, classes, conns, age)?;
         let c = connection_at(conns, age);
         join(classes, c.current, c.next);
-        age += 1;
     }
-    Judgement::Taken
+    Ok(())
 }
 
 // Judges a whole table of connections over accepted nodes: the first bad entry decides.

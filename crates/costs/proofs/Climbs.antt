@@ -6,12 +6,13 @@ use mathlib.Core.List.{List, [], ◌∷◌}
 use mathlib.Core.Logic.{⊎_elim}
 use native.Mathlib.Nat.{add_assoc, zero-add, add-zero}
 use native.Mathlib.Omega.{arith}
+use Rattle.forest.specs.declared.Row.{Row}
 use Rattle.model.specs.declared.Connection.{Connection}
 use Rattle.model.specs.declared.NodeNo.{NodeNo}
 use Rattle.model.specs.Forest.{cur, root, joined, Parent, top, below, parent_of}
 use Rattle.paths.specs.Hangs.{next_of, depth, Forest}
 use Rattle.paths.specs.Meet.{top_of, meet_of}
-use Rattle.paths.specs.declared.Meeting.TheVariants.{At, Nowhere}
+use Rattle.std.specs.Prelude.{None, Option, Some}
 use Rattle.paths.proofs.Laws.{no-parent, parent-case, joined-yes}
 use Rattle.paths.proofs.Walks.{climb-left, walk-self}
 use Rattle.paths.proofs.Joined.{joined-root}
@@ -28,18 +29,18 @@ parent-current [] n p = absurd (no-parent p)
 parent-current (d ∷ cs) n p =
     ⊎_elim (λ w. ap (λ (x : Connection). cur x) (sym w.conn) ∙ sym w.here) (λ w. parent-current cs n w.from) (parent-case d cs n p)
 
-pub weigh-self : (rows : List ℕ) (cs : List Connection) (n : ℕ) → weigh rows cs n n ≡ 0
+pub weigh-self : (rows : List Row) (cs : List Connection) (n : ℕ) → weigh rows cs n n ≡ 0
 unfolding weigh
 weigh-self rows cs n = walk-self 0 ◌+◌ (λ older _ c u. cost_in rows (cur c)) cs n
 
 -- one step of a climb
-pub record Rise (rows : List ℕ) (cs : List Connection) (n at to up : ℕ) : Type 0 where
+pub record Rise (rows : List Row) (cs : List Connection) (n at to up : ℕ) : Type 0 where
   pub inside : up < n
   pub above : Above cs up to
   pub cost : weigh rows cs at to ≡ cost_in rows at + weigh rows cs up to
   pub falls : depth_in rows up < depth_in rows at
 
-module _ {cs : List Connection} {n : ℕ} {rows : List ℕ} (k : Climbs cs n rows) (at to up : ℕ) (h : at < n) (e : at ≡ to → ⊥) (u : up ≡ next_in rows at) where
+module _ {cs : List Connection} {n : ℕ} {rows : List Row} (k : Climbs cs n rows) (at to up : ℕ) (h : at < n) (e : at ≡ to → ⊥) (u : up ≡ next_in rows at) where
   abbrev f : Forest cs
   f = k.rooted.forest
 
@@ -66,12 +67,12 @@ module _ {cs : List Connection} {n : ℕ} {rows : List ℕ} (k : Climbs cs n row
   rise a = rise-by a.steps a.enough a.leads
 
 -- a climb on its way, and what it has cost so far
-pub record Paid (rows : List ℕ) (cs : List Connection) (n from to at sum : ℕ) : Type 0 where
+pub record Paid (rows : List Row) (cs : List Connection) (n from to at sum : ℕ) : Type 0 where
   pub inside : at < n
   pub above : Above cs at to
   pub total : held (sum + weigh rows cs at to) ≡ held (weigh rows cs from to)
 
-module _ {rows : List ℕ} {cs : List Connection} {n from to at sum : ℕ} (k : Climbs cs n rows) (w : Paid rows cs n from to at sum) where
+module _ {rows : List Row} {cs : List Connection} {n from to at sum : ℕ} (k : Climbs cs n rows) (w : Paid rows cs n from to at sum) where
   pub onward : (up : ℕ) → (at ≡ to → ⊥) → up ≡ next_in rows at → Rise rows cs n at to up
   onward up e u = rise k at to up w.inside e u w.above
 
@@ -84,7 +85,7 @@ module _ {rows : List ℕ} {cs : List Connection} {n from to at sum : ℕ} (k : 
   paid-all e h = omega (arith, ap (weigh rows cs at) (sym e) ∙ weigh-self rows cs at, w.total)
 
 -- the cost of a connection is the same both ways
-module _ (rows : List ℕ) where
+module _ (rows : List Row) where
   abbrev price : List Connection → (ℕ → ℕ → ℕ) → Connection → Bool → ℕ
   price _ _ c _ = cost_in rows (cur c)
 
@@ -121,20 +122,20 @@ module _ (rows : List ℕ) where
             (both_ways m.j cs r ∙ sym b ∙ ap (weigh rows cs r) m.right);
       }
 
-  pub two_at : {cs : List Connection} {n l r : ℕ} {t : NodeNo} → Climbs cs n rows → At t ≡ meet_of cs l r → Two cs l r t.0
+  pub two_at : {cs : List Connection} {n l r : ℕ} {t : NodeNo} → Climbs cs n rows → Some t ≡ meet_of cs l r → Two cs l r t.0
   unfolding meet_of
   two_at {cs} {n} {l} {r} {t} k e = go (joined cs l r) refl
     where
       go : (b : Bool) → joined cs l r ≡ b → Two cs l r t.0
       go true q =
-          let p : At t ≡ At (record { 0 = top_of cs l r }) = e ∙ rw q in
+          let p : Some t ≡ Some (record { 0 = top_of cs l r }) = e ∙ rw q in
           let s : t ≡ record { 0 = top_of cs l r } = cc in
           rw (ap (λ (x : NodeNo). x.0) s) (two cs l r k.rooted.forest (joined-root cs l r q))
-      go false q = let z : At t ≡ Nowhere = e ∙ rw q in let y : ◌≡◌ {A = ℕ} 0 1 = cc in absurd (omega arith)
+      go false q = let z : Some t ≡ None = e ∙ rw q in let y : ◌≡◌ {A = ℕ} 0 1 = cc in absurd (omega arith)
 
 -- joined nodes meet
-pub never-nowhere : (cs : List Connection) (l r : ℕ) → root cs l ≡ root cs r → Nowhere ≡ meet_of cs l r → ⊥
+pub never-nowhere : (cs : List Connection) (l r : ℕ) → root cs l ≡ root cs r → None ≡ meet_of cs l r → ⊥
 unfolding meet_of
 never-nowhere cs l r j e =
-    let z : Nowhere ≡ At (record { 0 = top_of cs l r }) = e ∙ rw (joined-yes cs l r j) in
+    let z : ◌≡◌ {A = Option NodeNo} None (Some (record { 0 = top_of cs l r })) = e ∙ rw (joined-yes cs l r j) in
     let y : ◌≡◌ {A = ℕ} 0 1 = cc in omega arith

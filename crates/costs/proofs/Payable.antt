@@ -1,9 +1,11 @@
 -- What accepted tables give to whoever pays: each connection's nodes, and a congruence's children, joined by the older connections.
-use Prim.Native.Nat.{ℕ, ◌*◌, ◌<◌}
+use Prim.Native.Nat.{ℕ, ◌<◌}
 use mathlib.Core.Path.{◌≡◌, refl, ◌∙◌, ap, sym}
 use mathlib.Core.List.{List, ◌++◌}
 use lib.ListN.{drop, length}
 use native.Mathlib.Omega.{arith}
+use Rattle.model.specs.Limits.{node_limit}
+use Rattle.forest.specs.declared.Row.{Row}
 use Rattle.model.specs.declared.Connection.{Connection}
 use Rattle.model.specs.declared.Direction.{Direction}
 use Rattle.model.specs.declared.RuleNo.{RuleNo}
@@ -17,7 +19,7 @@ use Rattle.entries.specs.Connections.{Supported, connection_in, oldest}
 use Rattle.entries.specs.Nodes.{child_in, children_in, count_in, first_nodes}
 use Rattle.entries.proofs.Nodes.{children-in}
 use Rattle.entries.proofs.Support.{current-here, next_here, sound-here, twins}
-use Rattle.forest.specs.Rows.{Rooted, row_words, rows_of, table_words}
+use Rattle.forest.specs.Rows.{Rooted, rows_of}
 use Rattle.forest.proofs.Older.{kept}
 use Rattle.forest.proofs.Rooted.{full-climbs, full-free}
 use Rattle.costs.specs.Costs.{Alike, Charged, Joins, Payable, held, nodes_in}
@@ -26,7 +28,7 @@ module _ {nodes conns : List ℕ} {count : ℕ} (s : Supported nodes (nodes_in n
   abbrev c : Connection
   c = connection_in conns a
 
-  alike : (rows : List ℕ) → Charged (oldest count conns) (nodes_in nodes) rows → (connection_in conns a).why ≡ Congruence → Alike nodes rows (cur c) (nxt c)
+  alike : (rows : List Row) → Charged (oldest count conns) (nodes_in nodes) rows → (connection_in conns a).why ≡ Congruence → Alike nodes rows (cur c) (nxt c)
   alike rows k w =
       let t = twins s a h w in
       record {
@@ -40,7 +42,7 @@ module _ {nodes conns : List ℕ} {count : ℕ} (s : Supported nodes (nodes_in n
         joins = λ i q. (kept a count conns _ _ (omega arith) (t.joins i q)).joins;
       }
 
-  pub payable : (rows : List ℕ) → Charged (oldest count conns) (nodes_in nodes) rows → Payable nodes rows (connection_in conns a)
+  pub payable : (rows : List Row) → Charged (oldest count conns) (nodes_in nodes) rows → Payable nodes rows (connection_in conns a)
   payable rows k = record { current-in = current-here s a h; next-in = next_here s a h; alike = alike rows k }
 
   pub pairs : (connection_in conns a).why ≡ Congruence →
@@ -65,12 +67,12 @@ by-children nodes d why l r p q w =
     ∙ rw (children-in (nodes_in nodes) nodes l p, children-in (nodes_in nodes) nodes r q) refl)
 
 -- rows that were filled from accepted connections
-pub charged-full : {cs : List Connection} {n : ℕ} (old : List ℕ) {rows : List ℕ} → Rooted n cs → length old ≡ table_words →
-    rows ≡ rows_of cs n ++ drop (n * row_words) old → Charged cs n rows
+pub charged-full : {cs : List Connection} {n : ℕ} (old : List Row) {rows : List Row} → Rooted n cs → length old ≡ node_limit →
+    rows ≡ rows_of cs n ++ drop n old → Charged cs n rows
 charged-full old r s e = rw e record { climbs = full-climbs r old s; small = λ a p. omega (arith, full-free r old s a p) }
 
 -- a pair of children of two nodes that are alike: joined, so that their path is measured
-pub pair-joins : {nodes rows : List ℕ} {a b i x y : ℕ} (p : Alike nodes rows a b) → i < count_in nodes a → x ≡ child_in nodes a i → y ≡ child_in nodes b i →
+pub pair-joins : {nodes : List ℕ} {rows : List Row} {a b i x y : ℕ} (p : Alike nodes rows a b) → i < count_in nodes a → x ≡ child_in nodes a i → y ≡ child_in nodes b i →
     Joins rows x y
 pair-joins {i = i} p h x y =
     record {

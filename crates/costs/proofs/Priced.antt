@@ -1,5 +1,5 @@
 -- Rows whose costs are written in the order of age: what else stands in them is kept, and the sums are the distances, held at the cap.
-use Prim.Native.Nat.{ℕ, zero, suc, ◌*◌, ◌+◌, ◌≤◌, ◌<◌}
+use Prim.Native.Nat.{ℕ, zero, suc, ◌+◌, ◌≤◌, ◌<◌}
 use mathlib.Core.Path.{◌≡◌, refl, sym, ap, ◌∙◌}
 use mathlib.Core.List.{List, [], ◌∷◌}
 use native.Mathlib.Omega.{arith}
@@ -7,8 +7,8 @@ use native.Mathlib.Numerals.{add-one}
 use native.Mathlib.Decide.{ℕ_discrete, dec_le}
 use borrow.Author.Tests.{lt-ltb, le-ltb}
 use lib.Dec.{ltb}
-use lib.Seq.{get_or-set_same, get_or-set_other}
-use lib.ListN.{get_or, set, length-set}
+use lib.ListN.{length, set, length-set}
+use Rattle.forest.specs.declared.Row.{Row}
 use Rattle.model.specs.declared.Connection.{Connection}
 use Rattle.model.specs.declared.Justification.{Justification}
 use Rattle.model.specs.declared.Justification.TheVariants.{Rule as by_rule, Congruence}
@@ -18,25 +18,28 @@ use Rattle.model.specs.Forest.{cur, nxt, root, dist, cost_by, sum_pairs}
 use Rattle.paths.specs.Hangs.{Forest, Paired, Within}
 use Rattle.paths.proofs.Related.{Steps, related}
 use Rattle.entries.specs.Connections.{connection_in, oldest}
-use Rattle.forest.specs.Rows.{age_word, cost_in, cost_word, depth_word, next_word, row_words}
+use Rattle.forest.specs.Rows.{cost_in, row_in, with_cost}
 use Rattle.forest.proofs.Climbing.{within-at}
+use Rattle.forest.proofs.Filled.{age_part, cost_part, depth_part, next_part, part-here, part-kept, part-other}
 use Rattle.forest.proofs.Older.{starts_apart, walk-older}
 use Rattle.costs.specs.Costs.{Charged, Filled, cost_at, cost_cap, held, priced, weigh}
 
 -- one cost more
-module _ {cs : List Connection} {n : ℕ} {rows : List ℕ} (k : Charged cs n rows) (m v : ℕ) (h : m < n) where
-  abbrev paid : List ℕ
-  paid = set rows (m * row_words + cost_word) v
+module _ {cs : List Connection} {n : ℕ} {rows : List Row} (k : Charged cs n rows) (m v : ℕ) (h : m < n) where
+  abbrev dear : Row
+  dear = with_cost v (row_in rows m)
 
-  other : (i : ℕ) → (i ≡ m * row_words + cost_word → ⊥) → get_or paid i 0 ≡ get_or rows i 0
-  other i p = get_or-set_other rows (m * row_words + cost_word) i v 0 p
+  abbrev paid : List Row
+  paid = set rows m dear
+
+  room : m < length rows
+  room = omega (arith, k.climbs.size, k.climbs.rooted.few)
 
   pub cost-here : cost_in paid m ≡ v
-  cost-here =
-      get_or-set_same rows (m * row_words + cost_word) v 0 (omega (arith, k.climbs.size, k.climbs.rooted.few))
+  cost-here = part-here cost_part rows m dear room
 
   pub cost-other : (a : ℕ) → (a ≡ m → ⊥) → cost_in paid a ≡ cost_in rows a
-  cost-other a p = other (a * row_words + cost_word) (λ e. p (omega arith))
+  cost-other a p = part-other cost_part rows m dear a p
 
   pub charged-more : v ≤ cost_cap → Charged cs n paid
   charged-more s =
@@ -45,15 +48,15 @@ module _ {cs : List Connection} {n : ℕ} {rows : List ℕ} (k : Charged cs n ro
         climbs = record {
           rooted = t.rooted;
           size = simp length-set t.size;
-          next = λ a p. other (a * row_words + next_word) (λ e. omega arith) ∙ t.next a p;
-          age = λ a p. other (a * row_words + age_word) (λ e. omega arith) ∙ t.age a p;
-          deep = λ a p. other (a * row_words + depth_word) (λ e. omega arith) ∙ t.deep a p;
+          next = λ a p. part-kept next_part rows m dear room refl a ∙ t.next a p;
+          age = λ a p. part-kept age_part rows m dear room refl a ∙ t.age a p;
+          deep = λ a p. part-kept depth_part rows m dear room refl a ∙ t.deep a p;
         };
         small = λ a p. elim (ℕ_discrete a m) [ yes e ↦ rw e (omega (arith, cost-here)) | no e ↦ omega (arith, cost-other a e, k.small a p) ];
       }
 
 -- all costs below a bound
-module _ (ns : List Node) (ws : List ℕ) {cs : List Connection} {n : ℕ} {rows : List ℕ} (k : Charged cs n rows) (count : ℕ)
+module _ (ns : List Node) (ws : List ℕ) {cs : List Connection} {n : ℕ} {rows : List Row} (k : Charged cs n rows) (count : ℕ)
     (w : Within n (oldest count ws)) (f : Forest (oldest count ws)) where
   pub charged-priced : (age : ℕ) → age ≤ count → Charged cs n (priced ns ws age rows)
   unfolding priced
@@ -79,7 +82,7 @@ module _ (ns : List Node) (ws : List ℕ) {cs : List Connection} {n : ℕ} {rows
       }
 
 -- walking by costs and walking by distances are related step by step
-module _ (ns : List Node) (ws rows : List ℕ) where
+module _ (ns : List Node) (ws : List ℕ) (rows : List Row) where
   abbrev Same : ℕ → ℕ → Type 0
   Same x y = held x ≡ held y
 
@@ -126,12 +129,12 @@ module _ (ns : List Node) (ws rows : List ℕ) where
       go Congruence q = rw q (sum-older k m h f (kids_of ns (cur (connection_in ws k))) (kids_of ns (nxt (connection_in ws k))) (p q))
 
 -- the rows that are filled in the order of age
-pub priced-none : (ns : List Node) (ws rows : List ℕ) → rows ≡ priced ns ws 0 rows
+pub priced-none : (ns : List Node) (ws : List ℕ) (rows : List Row) → rows ≡ priced ns ws 0 rows
 unfolding priced
 priced-none ns ws rows = refl
 
-pub priced-more : (ns : List Node) (ws : List ℕ) (k : ℕ) (rows : List ℕ) (c : Connection) (v : ℕ) → c ≡ connection_in ws k → v ≡ held (cost_at ns ws k) →
-    set (priced ns ws k rows) (cur c * row_words + cost_word) v ≡ priced ns ws (k + 1) rows
+pub priced-more : (ns : List Node) (ws : List ℕ) (k : ℕ) (rows : List Row) (c : Connection) (v : ℕ) → c ≡ connection_in ws k → v ≡ held (cost_at ns ws k) →
+    set (priced ns ws k rows) (cur c) (with_cost v (row_in (priced ns ws k rows) (cur c))) ≡ priced ns ws (k + 1) rows
 unfolding priced
 priced-more ns ws k rows c v p e = rw (add-one, p, e) refl
 

@@ -11,11 +11,10 @@ use Rattle.model.specs.Frame.{two, query_frame, four_front, sixes, words_frame}
 use Rattle.laws.specs.Area.{splice}
 use Rattle.laws.proofs.Area.{length-splice, splice-none, splice_all, splice-more, splice-node}
 use Rattle.rule_table.proofs.Patterns.{none-some}
-use Rattle.decode.specs.declared.Pair.TheVariants.{Nodes, Wrong as no_pair}
-use Rattle.decode.specs.declared.Offered.TheVariants.{Words, Wrong as no_words}
+use Rattle.std.proofs.Common.{Some, None}
 use Rattle.decode.specs.Asked.{pair_of, offered_of, six_words, Holds}
 
-pub no-pair : (bs : List ℕ) → (length bs ≡ 4 → ⊥) → no_pair ≡ pair_of (query_frame bs)
+pub no-pair : (bs : List ℕ) → (length bs ≡ 4 → ⊥) → None ≡ pair_of (query_frame bs)
 unfolding query_frame
 no-pair [] h = refl
 no-pair (a ∷ []) h = refl
@@ -25,7 +24,7 @@ no-pair (a ∷ b ∷ c ∷ d ∷ []) h = absurd (h refl)
 no-pair (a ∷ b ∷ c ∷ d ∷ x ∷ bs) h = refl
 
 pub a_pair : (bs : List ℕ) (l r : ℕ) → length bs ≡ 4 → l ≡ two (get_or bs 0 0) (get_or bs 1 0) → r ≡ two (get_or bs 2 0) (get_or bs 3 0) →
-    Nodes (record { 0 = l }) (record { 0 = r }) ≡ pair_of (query_frame bs)
+    Some (record { 0 = l }, record { 0 = r }) ≡ pair_of (query_frame bs)
 unfolding query_frame
 a_pair [] l r h p q = absurd (omega arith)
 a_pair (a ∷ []) l r h p q = absurd (omega arith)
@@ -92,7 +91,7 @@ how-many (a ∷ b ∷ c ∷ m ∷ r ∷ n ∷ bs) ws e = more (sixes bs) (how-ma
         rw (← p) (record { sixth = suc k.sixth; bytes = omega (arith, k.bytes); words = omega (arith, k.words) })
 
 -- whole sixes give words, and others none
-whole-sixes : (k : ℕ) (bs : List ℕ) → length bs ≡ 6 * k → Words (4 * k) ≡ offered_of (sixes bs)
+whole-sixes : (k : ℕ) (bs : List ℕ) → length bs ≡ 6 * k → Some (4 * k) ≡ offered_of (sixes bs)
 unfolding sixes
 whole-sixes zero [] h = refl
 whole-sixes zero (b ∷ bs) h = absurd (omega arith)
@@ -100,29 +99,29 @@ whole-sixes (suc k) bs h =
     let e = whole-sixes k (drop 6 bs) (omega (arith, length-drop 6 bs)) in
     rw (first-six bs (omega arith)) (four _ _ _ _ (sixes (drop 6 bs)) e)
   where
-    four : (o c m r : ℕ) (ws : Option (List ℕ)) → Words (4 * k) ≡ offered_of ws → Words (4 * suc k) ≡ offered_of (four_front o c m r ws)
+    four : (o c m r : ℕ) (ws : Option (List ℕ)) → Some (4 * k) ≡ offered_of ws → Some (4 * suc k) ≡ offered_of (four_front o c m r ws)
     four o c m r none e = let z : ◌≡◌ {A = ℕ} 0 1 = cc in absurd (omega arith)
-    four o c m r (some ws) e = let p : 4 * k ≡ length ws = cc in ap Words (omega arith)
+    four o c m r (some ws) e = let p : 4 * k ≡ length ws = cc in ap Some (omega arith)
 
-pub words-offered : (bs : List ℕ) → (length bs ≡ 0 → ⊥) → length bs % 6 ≡ 0 → Words (length bs / 6 * 4) ≡ offered_of (words_frame bs)
+pub words-offered : (bs : List ℕ) → (length bs ≡ 0 → ⊥) → length bs % 6 ≡ 0 → Some (length bs / 6 * 4) ≡ offered_of (words_frame bs)
 unfolding words_frame
 words-offered [] h g = absurd (h refl)
 words-offered (b ∷ bs) h g =
     let k = length (b ∷ bs) / 6 in
     let e : k * 4 ≡ 4 * k = omega arith in
-    ap Words e ∙ whole-sixes k (b ∷ bs) (omega arith)
+    ap Some e ∙ whole-sixes k (b ∷ bs) (omega arith)
 
-pub no_byte : (bs : List ℕ) → length bs ≡ 0 → no_words ≡ offered_of (words_frame bs)
+pub no_byte : (bs : List ℕ) → length bs ≡ 0 → None ≡ offered_of (words_frame bs)
 unfolding words_frame
 no_byte [] h = refl
 no_byte (b ∷ bs) h = absurd (omega arith)
 
-pub no-sixes : (bs : List ℕ) → (length bs % 6 ≡ 0 → ⊥) → no_words ≡ offered_of (words_frame bs)
+pub no-sixes : (bs : List ℕ) → (length bs % 6 ≡ 0 → ⊥) → None ≡ offered_of (words_frame bs)
 unfolding words_frame
 no-sixes [] h = absurd (h refl)
 no-sixes (b ∷ bs) h = by (sixes (b ∷ bs)) refl
   where
-    by : (o : Option (List ℕ)) → sixes (b ∷ bs) ≡ o → no_words ≡ offered_of o
+    by : (o : Option (List ℕ)) → sixes (b ∷ bs) ≡ o → None ≡ offered_of o
     by none e = refl
     by (some ws) e = let k = how-many (b ∷ bs) ws e in absurd (h (omega (arith, k.bytes)))
 
@@ -149,12 +148,15 @@ unfolding words_frame
 holds-whole [] old h = let z : ◌≡◌ {A = ℕ} 0 1 = cc in absurd (omega arith)
 holds-whole (b ∷ bs) old h = by (sixes (b ∷ bs)) refl h
   where
-    by : (o : Option (List ℕ)) → sixes (b ∷ bs) ≡ o → offered_of o ≡ Words (length old) → Whole (b ∷ bs) old
+    by : (o : Option (List ℕ)) → sixes (b ∷ bs) ≡ o → offered_of o ≡ Some (length old) → Whole (b ∷ bs) old
     by none e d = let z : ◌≡◌ {A = ℕ} 0 1 = cc in absurd (omega arith)
     by (some ws) e d =
         let p : length ws ≡ length old = cc in
         let k = how-many (b ∷ bs) ws e in
         record { sixth = k.sixth; bytes = k.bytes; words = sym p ∙ k.words; is = refl }
+
+pub sixing-at : {bs old new : List ℕ} {i j i' j' : ℕ} → i ≡ i' → j ≡ j' → Sixing bs old new i j → Sixing bs old new i' j'
+sixing-at e d s = rw (← e, ← d) s
 
 join-nothing : (o : Option (List ℕ)) → joined [] o ≡ o
 join-nothing none = refl

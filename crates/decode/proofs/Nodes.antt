@@ -152,14 +152,13 @@ node-says bs c counted few h =
     }
 
 -- The places written so far, the first two before the loop.
-pub record Filled (bs start slot : List ℕ) (at k : ℕ) : Type 0 where
+pub record Filled (bs start slot : List ℕ) (k : ℕ) : Type 0 where
   pub stored : Stored (node_word bs) start slot k
   pub long : length slot ≡ node_words
-  pub bytes : at + 1 ≡ 2 * k
   pub some : 2 ≤ k
 
 pub filled-start : (bs old : List ℕ) (o c : ℕ) → length old ≡ node_words → o ≡ two (get_or bs 0 0) (get_or bs 1 0) → c ≡ get_or bs 2 0 →
-    Filled bs (set (set old 0 o) 1 c) (set (set old 0 o) 1 c) 3 2
+    Filled bs (set (set old 0 o) 1 c) (set (set old 0 o) 1 c) 2
 unfolding node_word
 filled-start bs old o c h p q =
     let l : length (set (set old 0 o) 1 c) ≡ node_words = simp length-set h in
@@ -167,26 +166,24 @@ filled-start bs old o c h p q =
     record {
       stored = record { some = omega arith; long = refl; done = s.done; rest = λ k g. refl };
       long = l;
-      bytes = refl;
       some = omega arith;
     }
 
-child-word : (bs : List ℕ) (at k v : ℕ) → at + 1 ≡ 2 * k → 2 ≤ k → v ≡ two (get_or bs at 0) (get_or bs (at + 1) 0) → v ≡ node_word bs k
+child-word : (bs : List ℕ) (k v : ℕ) → 2 ≤ k → v ≡ two (get_or bs (3 + 2 * (k - 2)) 0) (get_or bs (3 + 2 * (k - 2) + 1) 0) → v ≡ node_word bs k
 unfolding node_word
-child-word bs at zero v e h p = absurd (omega arith)
-child-word bs at (suc zero) v e h p = absurd (omega arith)
-child-word bs at (suc (suc i)) v e h p = let d : at ≡ 3 + 2 * i = omega arith in p ∙ rw d refl
+child-word bs zero v h p = absurd (omega arith)
+child-word bs (suc zero) v h p = absurd (omega arith)
+child-word bs (suc (suc i)) v h p = let d : suc (suc i) - 2 ≡ i = omega arith in p ∙ rw d refl
 
-pub filled_more : {bs start slot : List ℕ} {at k v : ℕ} → Filled bs start slot at k → k < length slot →
-    v ≡ two (get_or bs at 0) (get_or bs (at + 1) 0) → Filled bs start (set slot k v) (at + 2) (k + 1)
-filled_more {bs} {start} {slot} {at} {k} {v} f h p = record {
-  stored = stored_next f.stored h (child-word bs at k v f.bytes f.some p);
+pub filled_more : {bs start slot : List ℕ} {k v : ℕ} → Filled bs start slot k → k < length slot →
+    v ≡ two (get_or bs (3 + 2 * (k - 2)) 0) (get_or bs (3 + 2 * (k - 2) + 1) 0) → Filled bs start (set slot k v) (k + 1)
+filled_more {bs} {start} {slot} {k} {v} f h p = record {
+  stored = stored_next f.stored h (child-word bs k v f.some p);
   long = length-set slot k v ∙ f.long;
-  bytes = omega (arith, f.bytes);
   some = omega (arith, f.some);
 }
 
-pub filled-all : {bs start slot : List ℕ} {at k : ℕ} → Filled bs start slot at k → length slot ≤ k → Says bs → (old : List ℕ) →
+pub filled-all : {bs start slot : List ℕ} {k : ℕ} → Filled bs start slot k → length slot ≤ k → Says bs → (old : List ℕ) →
     (true ≡ present (node_frame bs)) × (slot ≡ slot_by words_of_node old (node_frame bs))
 filled-all f h s old =
     let l = s.long ∙ sym f.long ∙ f.stored.long in

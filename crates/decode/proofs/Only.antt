@@ -2,8 +2,8 @@
 use mathlib.Core.Bool.{Bool}
 use mathlib.Core.Path.{◌≡◌, sym, ◌∙◌}
 use contract.Lifetimes.{Lfts}
-use Rattle.decode.specs.declared.Pair.{Pair}
-use Rattle.decode.specs.declared.Offered.{Offered}
+use Rattle.std.proofs.Common.{ℕ, Option}
+use Rattle.model.specs.declared.NodeNo.{NodeNo}
 use Rattle.decode.proofs.Asked.{one-words}
 use Rattle.decode.proofs.put_node.Reads as put-node
 use Rattle.decode.proofs.put_rule.Reads as put-rule
@@ -25,10 +25,10 @@ put-connection-only : (κs : Lfts 2) (a s s' : _) (r r' : Bool) → put-connecti
     (r ≡ r') × (s.1.0.now ≡ s'.1.0.now)
 put-connection-only κs a s s' r r' p q = (p.0 ∙ sym q.0, p.1 ∙ sym q.1)
 
-pair-of-only : (κs : Lfts 1) (a s s' : _) (r r' : Pair) → pair_of.Post κs a r s → pair_of.Post κs a r' s' → r ≡ r'
+pair-of-only : (κs : Lfts 1) (a s s' : _) (r r' : Option (NodeNo × NodeNo)) → pair_of.Post κs a r s → pair_of.Post κs a r' s' → r ≡ r'
 pair-of-only κs a s s' r r' p q = p ∙ sym q
 
-words-in-only : (κs : Lfts 1) (a s s' : _) (r r' : Offered) → words-in.Post κs a r s → words-in.Post κs a r' s' → r ≡ r'
+words-in-only : (κs : Lfts 1) (a s s' : _) (r r' : Option ℕ) → words-in.Post κs a r s → words-in.Post κs a r' s' → r ≡ r'
 words-in-only κs a s s' r r' p q = p ∙ sym q
 
 -- the area, its second argument

@@ -19,7 +19,7 @@ use Rattle.layouts.proofs.Back.{slots_length, padded-length}
 use Rattle.rule_table.proofs.Patterns.{none-some}
 use Rattle.rule_table.proofs.Sides.{first-item}
 use Rattle.rule_table.proofs.Frames.{frame-sides, Split, frame-split}
-use Rattle.decode.specs.declared.sides.Side.TheVariants.{Items, Wrong}
+use Rattle.std.proofs.Common.{Some, None}
 use Rattle.laws.specs.Present.{present}
 use Rattle.decode.specs.Slot.{slot_by}
 use Rattle.decode.specs.Sides.{Found, found, side_found, side_of, items_of, TwoSides, rule_slot}
@@ -165,7 +165,7 @@ no-rule bs h k = by (rule_frame bs) refl
     by (some r) e = absurd (k (of-items bs (two (get_or bs 0 0) (get_or bs 1 0)) r (frame_items (drop 2 bs)) refl (sym (numbered bs h) ∙ e)))
 
 -- What the first pass answers of a side.
-wrong-none : (n : ℕ) (o : Option Found) → Wrong ≡ side_of n o → o ≡ none
+wrong-none : (n : ℕ) (o : Option Found) → None ≡ side_of n o → o ≡ none
 wrong-none n none e = refl
 wrong-none n (some f) e = let z : ◌≡◌ {A = ℕ} 0 1 = cc in absurd (omega arith)
 
@@ -177,15 +177,16 @@ record Answered (bs : List ℕ) (at n end : ℕ) : Type 0 where
   within : end ≤ length bs
   behind : drop end bs ≡ side-there.rest
 
-answered : (bs : List ℕ) (at n end : ℕ) → at ≤ length bs → Items n end ≡ side_of (length bs) (side_found bs at) → Answered bs at n end
+answered : (bs : List ℕ) (at n end : ℕ) → at ≤ length bs → Some (n, end) ≡ side_of (length bs) (side_found bs at) → Answered bs at n end
 answered bs at n end h e = by (side_found bs at) refl e
   where
-    by : (o : Option Found) → side_found bs at ≡ o → Items n end ≡ side_of (length bs) o → Answered bs at n end
+    by : (o : Option Found) → side_found bs at ≡ o → Some (n, end) ≡ side_of (length bs) o → Answered bs at n end
     by none d e = let z : ◌≡◌ {A = ℕ} 0 1 = cc in absurd (omega arith)
     by (some f) d e =
         let i = found-is item_limit 1 (drop at bs) f d in
-        let m : n ≡ length f.items = cc in
-        let x : end ≡ length bs - length f.rest = cc in
+        let q : (n, end) ≡ (length f.items, length bs - length f.rest) = cc in
+        let m : n ≡ length f.items = ap (λ (x : ℕ × ℕ). x.0) q in
+        let x : end ≡ length bs - length f.rest = ap (λ (x : ℕ × ℕ). x.1) q in
         let l = length-drop at bs in
         let k : end ≡ at + (length (drop at bs) - length f.rest) = omega (arith, i.shorter) in
         record {
@@ -198,10 +199,10 @@ answered bs at n end h e = by (side_found bs at) refl e
         }
 
 module _ (bs : List ℕ) (h : 2 ≤ length bs) where
-  pub no-left : Wrong ≡ side_of (length bs) (side_found bs 2) → rule_frame bs ≡ none
+  pub no-left : None ≡ side_of (length bs) (side_found bs 2) → rule_frame bs ≡ none
   no-left e = no-rule bs h (λ b. none-some (sym (wrong-none (length bs) (side_found bs 2) e) ∙ b.left-found))
 
-  module _ (left middle : ℕ) (l : Items left middle ≡ side_of (length bs) (side_found bs 2)) where
+  module _ (left middle : ℕ) (l : Some (left, middle) ≡ side_of (length bs) (side_found bs 2)) where
     first : Answered bs 2 left middle
     first = answered bs 2 left middle h l
 
@@ -214,10 +215,10 @@ module _ (bs : List ℕ) (h : 2 ≤ length bs) where
         let same : first.side-there ≡ b.left = cc (first.is_found, b.left-found) in
         ap (found item_limit 1) (first.behind ∙ ap (λ (f : Found). f.rest) same) ∙ b.right-found
 
-    pub no-right : Wrong ≡ side_of (length bs) (side_found bs middle) → rule_frame bs ≡ none
+    pub no-right : None ≡ side_of (length bs) (side_found bs middle) → rule_frame bs ≡ none
     no-right e = no-rule bs h (λ b. none-some (sym (wrong-none (length bs) (side_found bs middle) e) ∙ starts-there b))
 
-    module _ (right end : ℕ) (r : Items right end ≡ side_of (length bs) (side_found bs middle)) where
+    module _ (right end : ℕ) (r : Some (right, end) ≡ side_of (length bs) (side_found bs middle)) where
       second : Answered bs middle right end
       second = answered bs middle right end middle-within r
 

@@ -2,7 +2,8 @@
 use Prim.Native.Nat.{ℕ, zero, suc, ◌+◌, ◌-◌, ◌≤◌}
 use mathlib.Core.Bool.{Bool, true, false, ◌&&◌}
 use mathlib.Core.List.{List, [], ◌∷◌, ◌++◌}
-use mathlib.Core.Option.{Option, none, some}
+use mathlib.Core.Option.{Option as Maybe, none, some}
+use Rattle.std.proofs.Common.{Option, Some, None}
 use mathlib.Core.Path.{◌≡◌, refl, sym, ap, subst, ◌∙◌}
 use native.Mathlib.Omega.{arith}
 use native.Mathlib.Nat.{add_comm}
@@ -18,7 +19,7 @@ use Rattle.model.specs.Frame.{two, frame_items}
 use Rattle.rule_table.proofs.Patterns.{none-some, item_ok, arity, scan, is_row, scan-read, read-items}
 use Rattle.rule_table.proofs.Sides.{first-item}
 use Rattle.decode.specs.declared.sides.Part.{Part}
-use Rattle.decode.specs.Sides.{part_if, part_of, item_of, Found, longer, found}
+use Rattle.decode.specs.Sides.{part_if, part_of, item_of, Found, longer, behind, found}
 use Rattle.decode.proofs.Parts.{sound}
 use Rattle.decode.proofs.Found.{found-done}
 
@@ -32,26 +33,31 @@ record First (l : List ℕ) (p : Part) : Type 0 where
   ok : item_ok (item_of p) ≡ true
   wants : arity (item_of p) ≡ p.count
 
-first_part : (l : List ℕ) → ((part_of l).size ≡ 0 → ⊥) → First l (part_of l)
+abbrev FirstIf : List ℕ → Option Part → Type 0
+FirstIf l None = Unit {0}
+FirstIf l (Some p) = First l p
+
+first-if : (l : List ℕ) → FirstIf l (part_of l)
 unfolding part_of frame_items
-first_part [] h = absurd (h refl)
-first_part (zero ∷ []) h = absurd (h refl)
-first_part (zero ∷ x ∷ l) h = by (ltb x variable_limit) refl h
+first-if [] = tt
+first-if (zero ∷ []) = tt
+first-if (zero ∷ x ∷ l) = by (ltb x variable_limit) refl
   where
-    by : (b : Bool) → ltb x variable_limit ≡ b → ((part_if b (record { size = 2; kind = 0; field = x; count = 0 })).size ≡ 0 → ⊥) →
-        First (0 ∷ x ∷ l) (part_if b (record { size = 2; kind = 0; field = x; count = 0 }))
-    by true e h = record { frame = refl; ok = e; wants = refl }
-    by false e h = absurd (h refl)
-first_part (suc zero ∷ []) h = absurd (h refl)
-first_part (suc zero ∷ a ∷ []) h = absurd (h refl)
-first_part (suc zero ∷ a ∷ b ∷ []) h = absurd (h refl)
-first_part (suc zero ∷ a ∷ b ∷ c ∷ l) h = by (leb c child_limit) refl h
+    by : (b : Bool) → ltb x variable_limit ≡ b → FirstIf (0 ∷ x ∷ l) (part_if b (record { size = 2; kind = 0; field = x; count = 0 }))
+    by true e = record { frame = refl; ok = e; wants = refl }
+    by false e = tt
+first-if (suc zero ∷ []) = tt
+first-if (suc zero ∷ a ∷ []) = tt
+first-if (suc zero ∷ a ∷ b ∷ []) = tt
+first-if (suc zero ∷ a ∷ b ∷ c ∷ l) = by (leb c child_limit) refl
   where
-    by : (t : Bool) → leb c child_limit ≡ t → ((part_if t (record { size = 4; kind = 1; field = two a b; count = c })).size ≡ 0 → ⊥) →
-        First (1 ∷ a ∷ b ∷ c ∷ l) (part_if t (record { size = 4; kind = 1; field = two a b; count = c }))
-    by true e h = record { frame = refl; ok = e; wants = refl }
-    by false e h = absurd (h refl)
-first_part (suc (suc k) ∷ l) h = absurd (h refl)
+    by : (t : Bool) → leb c child_limit ≡ t → FirstIf (1 ∷ a ∷ b ∷ c ∷ l) (part_if t (record { size = 4; kind = 1; field = two a b; count = c }))
+    by true e = record { frame = refl; ok = e; wants = refl }
+    by false e = tt
+first-if (suc (suc k) ∷ l) = tt
+
+first_part : (l : List ℕ) (p : Part) → Some p ≡ part_of l → First l p
+first_part l p e = subst (FirstIf l) (sym e) (first-if l)
 
 -- what the walk finds
 pub record Is (k p : ℕ) (l : List ℕ) (f : Found) : Type 0 where
@@ -68,22 +74,22 @@ none_read k l f e =
     let z : 0 ≡ length l - length l = omega arith in
     subst (Is k 0 l) p (record { scanned = eq-eqb 0 0 refl; few = omega arith; shorter = omega arith; suffix = ap (λ (n : ℕ). drop n l) z; frame = λ js h. h })
 
-one-read : (k p : ℕ) (l : List ℕ) (f g : Found) → ((part_of l).size ≡ 0 → ⊥) → Is k (p + (part_of l).count) (drop (part_of l).size l) g →
-    record { items = item_of (part_of l) ∷ g.items; rest = g.rest } ≡ f → Is (suc k) (suc p) l f
+one-read : (k p : ℕ) (l : List ℕ) (q : Part) (f g : Found) → Some q ≡ part_of l → Is k (p + q.count) (drop q.size l) g →
+    record { items = item_of q ∷ g.items; rest = g.rest } ≡ f → Is (suc k) (suc p) l f
 unfolding scan
-one-read k p l f g h i e =
-    let n = (part_of l).size in
-    let t = first_part l h in
-    let s = sound l in
+one-read k p l q f g h i e =
+    let n = q.size in
+    let t = first_part l q h in
+    let s = sound l q h in
     let d = length-drop n l in
-    let c : arity (item_of (part_of l)) + p ≡ p + (part_of l).count = ap (λ (m : ℕ). m + p) t.wants ∙ add_comm (part_of l).count p in
+    let c : arity (item_of q) + p ≡ p + q.count = ap (λ (m : ℕ). m + p) t.wants ∙ add_comm q.count p in
     let m : n + (length (drop n l) - length g.rest) ≡ length l - length g.rest = omega (arith, s.fits, i.shorter) in
     subst (Is (suc k) (suc p) l) e (record {
       scanned = rw (t.ok, c) i.scanned;
       few = omega (arith, i.few);
       shorter = omega (arith, i.shorter);
       suffix = i.suffix ∙ drop-drop (length (drop n l) - length g.rest) n l ∙ ap (λ (x : ℕ). drop x l) m;
-      frame = λ js q. t.frame ∙ ap (item_front (some (item_of (part_of l)))) (i.frame js q);
+      frame = λ js y. t.frame ∙ ap (item_front (some (item_of q))) (i.frame js y);
     })
 
 pub found-is : (k p : ℕ) (l : List ℕ) (f : Found) → found k p l ≡ some f → Is k p l f
@@ -91,20 +97,28 @@ unfolding found
 found-is zero zero l f e = none_read 0 l f e
 found-is zero (suc p) l f e = absurd (none-some e)
 found-is (suc k) zero l f e = none_read (suc k) l f e
-found-is (suc k) (suc p) l f e =
-    by (part_of l).size (found k (p + (part_of l).count) (drop (part_of l).size l)) refl (found-is k (p + (part_of l).count) (drop (part_of l).size l)) e
+found-is (suc k) (suc p) l f e = first (part_of l) refl (λ q. found-is k (p + q.count) (drop q.size l)) e
   where
-    by : (n : ℕ) (o : Option Found) → (part_of l).size ≡ n → ((g : Found) → o ≡ some g → Is k (p + (part_of l).count) (drop (part_of l).size l) g) →
-        longer n (item_of (part_of l)) o ≡ some f → Is (suc k) (suc p) l f
-    by zero o d h e = absurd (none-some e)
-    by (suc n) none d h e = absurd (none-some e)
-    by (suc n) (some g) d h e = one-read k p l f g (λ z. omega arith) (h g refl) (cc)
+    by : (q : Part) → Some q ≡ part_of l → (o : Maybe Found) → ((g : Found) → o ≡ some g → Is k (p + q.count) (drop q.size l) g) →
+        longer (item_of q) o ≡ some f → Is (suc k) (suc p) l f
+    by q is none h e = absurd (none-some e)
+    by q is (some g) h e = one-read k p l q f g is (h g refl) (cc)
+
+    first : (o : Option Part) → o ≡ part_of l →
+        ((q : Part) (g : Found) → found k (p + q.count) (drop q.size l) ≡ some g → Is k (p + q.count) (drop q.size l) g) → behind o (λ q. longer (item_of q) (found k (p + q.count) (drop q.size l))) ≡ some f →
+        Is (suc k) (suc p) l f
+    first None is h e = absurd (none-some e)
+    first (Some q) is h e = by q is (found k (p + q.count) (drop q.size l)) (h q) e
 
 -- The first item of a frame whose fields are in their sets is found.
-abbrev is_this : List ℕ → Item → List Item → Part → Type 0
-is_this l i is p = (p.size ≡ 0 → ⊥) × (item_of p ≡ i) × (p.count ≡ arity i) × (frame_items (drop p.size l) ≡ some is)
+record IsThis (l : List ℕ) (i : Item) (is : List Item) (o : Option Part) : Type 0 where
+  part : Part
+  there : o ≡ Some part
+  item : item_of part ≡ i
+  wants : part.count ≡ arity i
+  others : frame_items (drop part.size l) ≡ some is
 
-starts : (l : List ℕ) (i : Item) (is : List Item) → frame_items l ≡ some (i ∷ is) → item_ok i ≡ true → is_this l i is (part_of l)
+starts : (l : List ℕ) (i : Item) (is : List Item) → frame_items l ≡ some (i ∷ is) → item_ok i ≡ true → IsThis l i is (part_of l)
 unfolding part_of frame_items
 starts [] i is e h = let z : ◌≡◌ {A = ℕ} 0 1 = cc in absurd (omega arith)
 starts (zero ∷ []) i is e h = absurd (none-some e)
@@ -113,7 +127,7 @@ starts (zero ∷ x ∷ l) i is e h =
     let v : variable x ≡ i = cc (w.first, w.joined) in
     let r : frame_items l ≡ some is = cc (w.others, w.joined) in
     let k : ltb x variable_limit ≡ true = ap item_ok v ∙ h in
-    rw k ((λ z. omega arith), v, ap arity v, r)
+    rw k (record { part = record { size = 2; kind = 0; field = x; count = 0 }; there = refl; item = v; wants = ap arity v; others = r })
 starts (suc zero ∷ []) i is e h = absurd (none-some e)
 starts (suc zero ∷ a ∷ []) i is e h = absurd (none-some e)
 starts (suc zero ∷ a ∷ b ∷ []) i is e h = absurd (none-some e)
@@ -122,7 +136,7 @@ starts (suc zero ∷ a ∷ b ∷ c ∷ l) i is e h =
     let v : operator (two a b) c ≡ i = cc (w.first, w.joined) in
     let r : frame_items l ≡ some is = cc (w.others, w.joined) in
     let k : leb c child_limit ≡ true = ap item_ok v ∙ h in
-    rw k ((λ z. omega arith), v, ap arity v, r)
+    rw k (record { part = record { size = 4; kind = 1; field = two a b; count = c }; there = refl; item = v; wants = ap arity v; others = r })
 starts (suc (suc k) ∷ l) i is e h = absurd (none-some e)
 
 -- items of a frame that are patterns are found
@@ -130,11 +144,6 @@ pub record Finds (k p : ℕ) (l : List ℕ) (is js : List Item) : Type 0 where
   pub rest : List ℕ
   pub is_found : found k p l ≡ some (record { items = is; rest = rest })
   pub others : frame_items rest ≡ some js
-
-find-more : (n : ℕ) (i : Item) (o : Option Found) (is : List Item) (rest : List ℕ) → (n ≡ 0 → ⊥) → o ≡ some (record { items = is; rest = rest }) →
-    longer n i o ≡ some (record { items = i ∷ is; rest = rest })
-find-more zero i o is rest h e = absurd (h refl)
-find-more (suc n) i o is rest h e = rw e refl
 
 pub finds : (is js : List Item) (l : List ℕ) (k p : ℕ) → frame_items l ≡ some (is ++ js) → scan is p ≡ true → length is ≤ k → Finds k p l is js
 unfolding scan found
@@ -144,13 +153,11 @@ finds (i ∷ is) js l (suc k) zero e s h = let z : ◌≡◌ {A = ℕ} 0 1 = cc 
 finds (i ∷ is) js l (suc k) (suc p) e s h =
     let b = both (item_ok i) (scan is (arity i + p)) s in
     let t = starts l i (is ++ js) e b.0 in
-    let c : arity i + p ≡ p + (part_of l).count = add_comm (arity i) p ∙ ap (λ (m : ℕ). p + m) (sym t.2) in
-    let f = finds is js (drop (part_of l).size l) k (p + (part_of l).count) t.3 (ap (scan is) (sym c) ∙ b.1) (omega arith) in
+    let c : arity i + p ≡ p + t.part.count = add_comm (arity i) p ∙ ap (λ (m : ℕ). p + m) (sym t.wants) in
+    let f = finds is js (drop t.part.size l) k (p + t.part.count) t.others (ap (scan is) (sym c) ∙ b.1) (omega arith) in
     record {
       rest = f.rest;
-      is_found =
-          find-more (part_of l).size (item_of (part_of l)) _ is f.rest t.0 f.is_found
-          ∙ ap (λ (j : Item). some (record { items = j ∷ is; rest = f.rest })) t.1;
+      is_found = rw (t.there, f.is_found) (ap (λ (j : Item). some (record { items = j ∷ is; rest = f.rest })) t.item);
       others = f.others;
     }
 
@@ -164,7 +171,7 @@ pub a-side : (is : List Item) → scan is 1 ≡ true → length is ≤ item_limi
 unfolding side
 a-side is s h = by (read_p is) refl (sym (scan-read is 1) ∙ s)
   where
-    by : (o : Option Patterns) → read_p is ≡ o → is_row 1 o ≡ true → ASide is
+    by : (o : Maybe Patterns) → read_p is ≡ o → is_row 1 o ≡ true → ASide is
     by none e r = let z : ◌≡◌ {A = ℕ} 0 1 = cc in absurd (omega arith)
     by (some q) e r =
         let w = (read-items is q e).spelled in
@@ -186,6 +193,6 @@ side-scan is q e = by (read_p is) refl e
         let w = ap length (read-items is r d).spelled in
         (scan-read is 1 ∙ ap (is_row 1) d ∙ eq-eqb 1 (count_p r) (sym (eqb-true (count_p r) 1 b.0)), omega (arith, leb-true (length (items r)) item_limit b.1))
 
-    by : (o : Option Patterns) → read_p is ≡ o → one_pattern o ≡ some q → (scan is 1 ≡ true) × (length is ≤ item_limit)
+    by : (o : Maybe Patterns) → read_p is ≡ o → one_pattern o ≡ some q → (scan is 1 ≡ true) × (length is ≤ item_limit)
     by none d e = absurd (none-some e)
     by (some r) d e = one r d _ refl e

@@ -1,27 +1,23 @@
 -- The second pass over a side: the words of its items written, one item after another; and a slot cleared.
 use Prim.Native.Nat.{ℕ, ◌+◌, ◌*◌, ◌-◌, ◌≤◌, ◌<◌}
 use mathlib.Core.List.{List, [], ◌∷◌, ◌++◌, append-nil}
-use mathlib.Core.Option.{Option, none, some}
-use mathlib.Core.Path.{◌≡◌, refl, sym, ap, ap₂, subst, ◌∙◌}
+use mathlib.Core.Option.{Option as Maybe, none, some}
+use Rattle.std.proofs.Common.{Option, Some, None, IsSome}
+use mathlib.Core.Path.{◌≡◌, refl, sym, ap, ap₂, ◌∙◌}
 use native.Mathlib.Omega.{arith}
 use native.Mathlib.Decide.{ℕ_discrete}
-use lib.ListN.{length, set, drop, replicate, length-append, length-replicate, get_or-replicate}
+use lib.ListN.{length, set, drop, length-append}
 use Rattle.model.specs.Limits.{item_limit}
 use Rattle.model.specs.Pattern.{Item}
 use Rattle.model.specs.Tables.{item_words}
 use Rattle.laws.specs.Area.{splice}
 use Rattle.laws.proofs.Area.{length-splice, splice-none, splice-one, splice-push, splice-more}
-use Rattle.laws.proofs.Stored.{Stored, stored-all}
 use Rattle.layouts.specs.Words.{item_kind, item_field, item_count, slots_of}
 use Rattle.layouts.proofs.Back.{slots_length}
 use Rattle.decode.specs.declared.sides.Part.{Part}
 use Rattle.decode.specs.Sides.{part_of, item_of, Found, found, side_found, items_of, HasItems}
-use Rattle.decode.proofs.Parts.{Sound, sound}
+use Rattle.decode.proofs.Parts.{sound}
 use Rattle.decode.proofs.Found.{before, before-none, found-over, found-done, turn-none, turn-item, turn-fits}
-
--- every word zero
-pub cleared : {old slot : List ℕ} {i : ℕ} → Stored (λ k. 0) old slot i → length slot ≤ i → slot ≡ replicate (length old) 0
-cleared {old} s h = stored-all s h (replicate (length old) 0) (length-replicate (length old) 0) (λ k g. get_or-replicate (length old) k 0 0 g)
 
 -- an item's three words
 three-words : (old : List ℕ) (at a b c : ℕ) → at + item_words ≤ length old →
@@ -60,15 +56,20 @@ module _ (bs : List ℕ) (at items place : ℕ) (old : List ℕ) (here : at ≤ 
     goes = before-none (side_found bs at);
   }
 
+-- the same place and count by other names
+pub writing-at : {bs : List ℕ} {at items place : ℕ} {old new : List ℕ} {pos to left : ℕ} {to' left' : ℕ} → to ≡ to' → left ≡ left' →
+    Writing bs at items place old new pos to left → Writing bs at items place old new pos to' left'
+writing-at e d w = rw (← e, ← d) w
+
 -- what is written so far, of the items that there are
-module _ (front : List Item) (o : Option Found) (items left : ℕ) (has : length (items_of (before front o)) ≡ items) (counted : length front + left ≡ items) where
+module _ (front : List Item) (o : Maybe Found) (items left : ℕ) (has : length (items_of (before front o)) ≡ items) (counted : length front + left ≡ items) where
   not_none : 0 < left → o ≡ none → ⊥
   not_none h e = let z : 0 ≡ items = rw e at has in omega arith
 
   not_done : 0 < left → (l : List ℕ) → o ≡ some (record { items = []; rest = l }) → ⊥
   not_done h l e = let z : length (front ++ []) ≡ items = rw e at has in omega (arith, length-append front [])
 
-all-written : (front : List Item) (o : Option Found) → length (items_of (before front o)) ≡ length front → items_of (before front o) ≡ front
+all-written : (front : List Item) (o : Maybe Found) → length (items_of (before front o)) ≡ length front → items_of (before front o) ≡ front
 all-written [] none h = refl
 all-written (i ∷ front) none h = absurd (omega arith)
 all-written front (some f) h = ap (λ (is : List Item). front ++ is) (none_more f.items (omega (arith, length-append front f.items))) ∙ append-nil front
@@ -86,7 +87,7 @@ module _ {bs : List ℕ} {at items place : ℕ} {old new : List ℕ} {pos to lef
   writing-length = ap length w.written ∙ length-splice old place (slots_of w.front) (omega (arith, words, w.counted))
 
   still : length (items_of (before w.front (found w.fuel w.pending (drop pos bs)))) ≡ items
-  still = ap (λ (o : Option Found). length (items_of o)) w.goes ∙ has
+  still = ap (λ (o : Maybe Found). length (items_of o)) w.goes ∙ has
 
   pub writing-done : left ≡ 0 → new ≡ splice old place (slots_of (items_of (side_found bs at)))
   writing-done h =
@@ -106,22 +107,29 @@ module _ {bs : List ℕ} {at items place : ℕ} {old new : List ℕ} {pos to lef
       | no e ↦ omega arith
     ]
 
-    some_bytes : (part_of (drop pos bs)).size ≡ 0 → ⊥
+    pub some_bytes : None ≡ part_of (drop pos bs) → ⊥
     some_bytes e =
         let none-there : before w.front (found w.fuel w.pending (drop pos bs)) ≡ none = turn-none bs pos w.front w.fuel w.pending some-fuel some-pending e in
-        let z : 0 ≡ items = ap (λ (o : Option Found). length (items_of o)) (sym none-there) ∙ still in
+        let z : 0 ≡ items = ap (λ (o : Maybe Found). length (items_of o)) (sym none-there) ∙ still in
         omega (arith, w.counted)
+
+    pub some-part : {o : Option Part} → o ≡ part_of (drop pos bs) → IsSome o
+    some-part {o} e = by o e
+      where
+        by : (o : Option Part) → o ≡ part_of (drop pos bs) → IsSome o
+        by None e = absurd (some_bytes e)
+        by (Some p) e = refl
 
     pub writing-room : to + item_words ≤ length new
     writing-room = omega (arith, w.counted, w.reached, writing-length)
 
-    module _ (p : Part) (is : p ≡ part_of (drop pos bs)) where
+    module _ (p : Part) (is : Some p ≡ part_of (drop pos bs)) where
       pub writing-fits : pos + p.size ≤ length bs
-      writing-fits = subst (λ (q : Part). pos + q.size ≤ length bs) (sym is) (turn-fits bs pos w.front w.fuel w.pending some-fuel some-pending w.within).0
+      writing-fits = (turn-fits bs pos w.front w.fuel w.pending some-fuel some-pending p is w.within).0
 
       item-words : item_kind (item_of p) ∷ item_field (item_of p) ∷ item_count (item_of p) ∷ [] ≡ p.kind ∷ p.field ∷ p.count ∷ []
       item-words =
-          let s : Sound (drop pos bs) p = subst (Sound (drop pos bs)) (sym is) (sound (drop pos bs)) in
+          let s = sound (drop pos bs) p is in
           ap₂ (λ (a : ℕ) (l : List ℕ). a ∷ l) s.kind (ap₂ (λ (a b : ℕ). a ∷ b ∷ []) s.field s.number)
 
       pub writing_more : Writing bs at items place old (set (set (set new to p.kind) (to + 1) p.field) (to + 2) p.count) (pos + p.size) (to + item_words) (left - 1)
@@ -141,6 +149,5 @@ module _ {bs : List ℕ} {at items place : ℕ} {old new : List ℕ} {pos to lef
                 ∙ splice-more old place (slots_of w.front) three (omega (arith, words, w.counted))
                 ∙ ap (λ (l : List ℕ). splice old place (slots_of w.front ++ l)) (sym item-words)
                 ∙ ap (splice old place) (sym (slots-more w.front (item_of p)));
-            goes = subst (λ (q : Part). before (w.front ++ (item_of q ∷ [])) (found (w.fuel - 1) (w.pending - 1 + q.count) (drop (pos + q.size) bs)) ≡ side_found bs at)
-                (sym is) (sym (turn-item bs pos w.front w.fuel w.pending some-fuel some-pending some_bytes) ∙ w.goes);
+            goes = sym (turn-item bs pos w.front w.fuel w.pending some-fuel some-pending p is) ∙ w.goes;
           }

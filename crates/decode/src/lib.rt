@@ -18,9 +18,9 @@ ghost use Rattle.decode.specs.Asked.{pair_of, offered_of, Holds, six_words};
 
 use model::{
     BY_RULE_AT, CHILD_LIMIT, CHILDREN_AT, COUNT_AT, FLAT_WORDS, FORWARD_AT, LEFT_AT, NEXT_AT,
-    NodeNo, RIGHT_AT, WHY_AT, wide,
+    NodeNo, RIGHT_AT, WHY_AT,
 };
-use sides::{Side, put_items, side_at};
+use sides::{put_items, side_at};
 
 // How many bytes a node's frame has before its children, a connection's, a query's, and a node of an offered proof.
 const NODE_HEAD: usize = 3;
@@ -31,33 +31,12 @@ const QUERY_BYTES: usize = 4;
 
 const SIX_BYTES: usize = 6;
 
-// The pair of nodes that a query's frame names.
-#[derive(Clone, Copy)]
-pub enum Pair {
-    Nodes(NodeNo, NodeNo),
-    Wrong,
-}
-
-// How many words a frame of an offered proof holds.
-#[derive(Clone, Copy)]
-pub enum Offered {
-    Words(usize),
-    Wrong,
-}
-
-// A byte as a word.
-fn wide_byte(x: u8) -> u16
-    ensures { (result ≡ x) × (result < 256) }
-{
-    x as u16
-}
-
 // The one place where two bytes are read as a word: "high byte first".
 fn word_at(bytes: &[u8], at: usize) -> u16
     requires { at + 1 < length bytes.now }
     ensures { result ≡ two (get_or bytes.now at 0) (get_or bytes.now (at + 1) 0) }
 {
-    wide_byte(bytes[at]) * 256 + wide_byte(bytes[at + 1])
+    u16::from_be_bytes([bytes[at], bytes[at + 1]])
 }
 
 // The same, or zero behind the end.
@@ -82,34 +61,19 @@ pub fn put_node(bytes: &[u8], slot: &mut [u16]) -> bool
     if n < NODE_HEAD {
         return false;
     }
-    let count = wide_byte(bytes[2]);
+    let count = u16::from(bytes[2]);
     if count > CHILD_LIMIT {
         return false;
     }
-    if n != NODE_HEAD + 2 * wide(count) {
+    if n != NODE_HEAD + 2 * usize::from(count) {
         return false;
     }
     slot[0] = word_at(bytes, 0);
     slot[COUNT_AT] = count;
-    let mut at = NODE_HEAD;
-    let mut k = CHILDREN_AT;
-    while k < slot.len() {
-        slot[k] = child_at(bytes, at);
-        at += 2;
-        k += 1;
+    for k in CHILDREN_AT..slot.len() {
+        slot[k] = child_at(bytes, NODE_HEAD + 2 * (k - CHILDREN_AT));
     }
     true
-}
-
-// Sets every word of a slot to zero.
-fn clear(slot: &mut [u16])
-    ensures { slot.new ≡ replicate (length slot.old) 0 }
-{
-    let mut i: usize = 0;
-    while i < slot.len() {
-        slot[i] = 0;
-        i += 1;
-    }
 }
 
 // Writes a rule's words: its number, how many items each side has, and the items; slots that its counts leave unused are zero.
@@ -117,7 +81,7 @@ fn write_rule(bytes: &[u8], left: usize, middle: usize, right: usize, slot: &mut
     requires { TwoSides bytes.now left middle right × (length slot.old ≡ rule_words) }
     ensures { slot.new ≡ rule_slot (two (get_or bytes.now 0 0) (get_or bytes.now 1 0)) (items_of (side_found bytes.now 2)) (items_of (side_found bytes.now middle)) }
 {
-    clear(slot);
+    slot.fill(0);
     slot[0] = word_at(bytes, 0);
     slot[1] = left as u16;
     slot[2] = right as u16;
@@ -135,10 +99,10 @@ pub fn put_rule(bytes: &[u8], slot: &mut [u16]) -> bool
     if n < 2 {
         return false;
     }
-    let Side::Items(left, middle) = side_at(bytes, 2) else {
+    let Some((left, middle)) = side_at(bytes, 2) else {
         return false;
     };
-    let Side::Items(right, end) = side_at(bytes, middle) else {
+    let Some((right, end)) = side_at(bytes, middle) else {
         return false;
     };
     if end != n {
@@ -154,12 +118,7 @@ fn why_fits(kind: u8, rule: u16, forward: u8) -> bool
     ensures { result ≡ present (why_of kind rule forward) }
 {
     match kind {
-        0 => {
-            if rule == 0 {
-                return forward == 0;
-            }
-            false
-        }
+        0 => rule == 0 && forward == 0,
         1 => forward <= 1,
         _ => false,
     }
@@ -180,34 +139,34 @@ pub fn put_connection(bytes: &[u8], slot: &mut [u16]) -> bool
     }
     slot[0] = word_at(bytes, 0);
     slot[NEXT_AT] = word_at(bytes, 2);
-    slot[WHY_AT] = wide_byte(bytes[4]);
+    slot[WHY_AT] = u16::from(bytes[4]);
     slot[BY_RULE_AT] = rule;
-    slot[FORWARD_AT] = wide_byte(bytes[7]);
+    slot[FORWARD_AT] = u16::from(bytes[7]);
     true
 }
 
-// 04: a query.
-pub fn pair_of(bytes: &[u8]) -> Pair
+// 04: a query, the pair of nodes that it names.
+pub fn pair_of(bytes: &[u8]) -> Option<(NodeNo, NodeNo)>
     ensures { result ≡ pair_of (query_frame bytes.now) }
 {
     if bytes.len() != QUERY_BYTES {
-        return Pair::Wrong;
+        return None;
     }
-    Pair::Nodes(NodeNo(word_at(bytes, 0)), NodeNo(word_at(bytes, 2)))
+    Some((NodeNo(word_at(bytes, 0)), NodeNo(word_at(bytes, 2))))
 }
 
-// 05: words of an offered proof, one or more nodes of six bytes; four words each.
-pub fn words_in(bytes: &[u8]) -> Offered
+// 05: how many words of an offered proof, one or more nodes of six bytes; four words each.
+pub fn words_in(bytes: &[u8]) -> Option<usize>
     ensures { result ≡ offered_of (words_frame bytes.now) }
 {
     let n = bytes.len();
     if n == 0 {
-        return Offered::Wrong;
+        return None;
     }
     if n % SIX_BYTES != 0 {
-        return Offered::Wrong;
+        return None;
     }
-    Offered::Words(n / SIX_BYTES * FLAT_WORDS)
+    Some(n / SIX_BYTES * FLAT_WORDS)
 }
 
 // The four words of the six bytes from `i` on, to a place of the area.
@@ -216,8 +175,8 @@ fn put_six(bytes: &[u8], i: usize, area: &mut [u16], j: usize)
     ensures { area.new ≡ splice area.old j (six_words bytes.now i) }
 {
     area[j] = word_at(bytes, i);
-    area[j + 1] = wide_byte(bytes[i + 2]);
-    area[j + 2] = wide_byte(bytes[i + 3]);
+    area[j + 1] = u16::from(bytes[i + 2]);
+    area[j + 2] = u16::from(bytes[i + 3]);
     area[j + 3] = word_at(bytes, i + 4);
 }
 
@@ -226,11 +185,7 @@ pub fn put_words(bytes: &[u8], area: &mut [u16])
     requires { Holds bytes.now (length area.old) }
     ensures { words_frame bytes.now ≡ some area.new }
 {
-    let mut i: usize = 0;
-    let mut j: usize = 0;
-    while j < area.len() {
-        put_six(bytes, i, area, j);
-        i += SIX_BYTES;
-        j += FLAT_WORDS;
+    for k in 0..area.len() / FLAT_WORDS {
+        put_six(bytes, SIX_BYTES * k, area, FLAT_WORDS * k);
     }
 }

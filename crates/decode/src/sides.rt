@@ -3,12 +3,12 @@ ghost use Rattle.std.specs.Prelude.{◌≡◌, ◌+◌, ◌*◌, ◌≤◌, leng
 ghost use Rattle.model.specs.Tables.{item_words};
 ghost use Rattle.laws.specs.Area.{splice};
 ghost use Rattle.layouts.specs.Words.{slots_of};
-ghost use Rattle.decode.specs.Sides.{no_part, part_of, side_found, side_of, items_of, HasItems};
+ghost use Rattle.decode.specs.Sides.{part_of, side_found, side_of, items_of, HasItems};
 
-use super::{wide_byte, word_at};
-use model::{CHILD_LIMIT, ITEM_LIMIT, ITEM_WORDS, VARIABLE_LIMIT, wide};
+use super::word_at;
+use model::{CHILD_LIMIT, ITEM_LIMIT, ITEM_WORDS, VARIABLE_LIMIT};
 
-// An item of a rule's frame: how many bytes it has, 0 where there is none, and its three words.
+// An item of a rule's frame: how many bytes it has, and its three words.
 #[derive(Clone, Copy)]
 pub struct Part {
     pub size: usize,
@@ -17,93 +17,71 @@ pub struct Part {
     pub count: u16,
 }
 
-// A side of a rule's frame: how many items it has, and where they end.
-#[derive(Clone, Copy)]
-pub enum Side {
-    Items(usize, usize),
-    Wrong,
-}
-
-// No item.
-fn no_part() -> Part
-    ensures { result ≡ no_part }
-{
-    Part {
-        size: 0,
-        kind: 0,
-        field: 0,
-        count: 0,
-    }
-}
-
-// The item that starts at a place, by its first byte.
-fn part_at(bytes: &[u8], at: usize) -> Part
+// The item that starts at a place, by its first byte, if one starts there.
+fn part_at(bytes: &[u8], at: usize) -> Option<Part>
     requires { at ≤ length bytes.now }
     ensures { result ≡ part_of (drop at bytes.now) }
 {
     let left = bytes.len() - at;
     if left == 0 {
-        return no_part();
+        return None;
     }
     let kind = bytes[at];
     match kind {
         0 => {
             if left < 2 {
-                return no_part();
+                return None;
             }
-            let x = wide_byte(bytes[at + 1]);
-            if wide(x) < VARIABLE_LIMIT {
-                return Part {
+            let field = u16::from(bytes[at + 1]);
+            if usize::from(field) < VARIABLE_LIMIT {
+                return Some(Part {
                     size: 2,
                     kind: 0,
-                    field: x,
+                    field,
                     count: 0,
-                };
+                });
             }
-            no_part()
+            None
         }
         1 => {
             if left < 4 {
-                return no_part();
+                return None;
             }
-            let count = wide_byte(bytes[at + 3]);
+            let count = u16::from(bytes[at + 3]);
             if count <= CHILD_LIMIT {
-                return Part {
+                return Some(Part {
                     size: 4,
                     kind: 1,
                     field: word_at(bytes, at + 1),
-                    count: count,
-                };
+                    count,
+                });
             }
-            no_part()
+            None
         }
-        _ => no_part(),
+        _ => None,
     }
 }
 
 // How many items the side that starts at a place has, and where they end: each item that is read takes one from the patterns still
 // to be read, and adds its children.
-pub fn side_at(bytes: &[u8], at: usize) -> Side
+pub fn side_at(bytes: &[u8], at: usize) -> Option<(usize, usize)>
     requires { at ≤ length bytes.now }
     ensures { result ≡ side_of (length bytes.now) (side_found bytes.now at) }
 {
     let mut pos = at;
     let mut n: usize = 0;
     let mut pending: usize = 1;
+    // No range: how many items a side has is known at its end only.
     while 0 < pending {
         if n >= ITEM_LIMIT {
-            return Side::Wrong;
+            return None;
         }
-        let part = part_at(bytes, pos);
-        let size = part.size;
-        if size == 0 {
-            return Side::Wrong;
-        }
-        pos += size;
-        pending = pending - 1 + wide(part.count);
+        let part = part_at(bytes, pos)?;
+        pos += part.size;
+        pending = pending - 1 + usize::from(part.count);
         n += 1;
     }
-    Side::Items(n, pos)
+    Some((n, pos))
 }
 
 // Writes the words of a side's items from a place of the slot on.
@@ -112,15 +90,12 @@ pub fn put_items(bytes: &[u8], at: usize, items: usize, slot: &mut [u16], place:
     ensures { slot.new ≡ splice slot.old place (slots_of (items_of (side_found bytes.now at))) }
 {
     let mut pos = at;
-    let mut to = place;
-    let mut left = items;
-    while 0 < left {
-        let part = part_at(bytes, pos);
+    for k in 0..items {
+        let part = part_at(bytes, pos).unwrap();
+        let to = place + ITEM_WORDS * k;
         slot[to] = part.kind;
         slot[to + 1] = part.field;
         slot[to + 2] = part.count;
         pos += part.size;
-        to += ITEM_WORDS;
-        left -= 1;
     }
 }

@@ -9,6 +9,7 @@ use native.Mathlib.Omega.{arith}
 use borrow.Author.Tests.{le-leb, le-ltb, leb-true, lt-leb, lt-ltb, ne_eqb}
 use lib.Dec.{eqb, leb, ltb}
 use lib.ListN.{get_or, length}
+use Rattle.model.specs.declared.Refusal.TheVariants.{EndsUnfit, NoSupport}
 use Rattle.model.specs.Connect.{add_connection, misplaced, supported}
 use Rattle.model.specs.Forest.{cur, nxt}
 use Rattle.model.specs.Judged.{Judged, bad, good}
@@ -149,8 +150,8 @@ added : (ns : List Node) (cs : List Connection) (e : Option Connection) (new : L
 unfolding add_connection
 added ns cs none new p = let z : ◌≡◌ {A = ℕ} 0 1 = cc in absurd (omega arith)
 added ns cs (some c) new p =
-    let a = taken (misplaced ns cs c) 6 _ _ p in
-    let b = taken (not (supported ns cs c.why (cur c) (nxt c))) 7 _ _ a.1 in
+    let a = taken (misplaced ns cs c) EndsUnfit _ _ p in
+    let b = taken (not (supported ns cs c.why (cur c) (nxt c))) NoSupport _ _ a.1 in
     let q : new ≡ c ∷ cs = cc in
     record { conn = c; entry = refl; is = q; accepted = rw q at p }
 

@@ -15,7 +15,8 @@ use Rattle.model.specs.Node.{Node, add_node, all_below}
 use Rattle.model.specs.Tables.{node_entry, node_words}
 use Rattle.model.specs.declared.Connection.{Connection}
 use Rattle.model.specs.declared.Direction.{Direction}
-use Rattle.model.specs.declared.Judgement.TheVariants.{Faulty, Taken}
+use Rattle.std.proofs.Common.{Ok, Err}
+use Rattle.model.specs.declared.Refusal.TheVariants.{NoEntry, TableFull, ChildNotBelow, EndsUnfit, NoSupport}
 use Rattle.model.specs.declared.Justification.TheVariants.{Congruence, Rule as by_rule}
 use Rattle.model.specs.declared.RuleNo.{RuleNo}
 use Rattle.paths.proofs.Laws.{joined-yes}
@@ -59,41 +60,41 @@ module _ (ns : List Node) (cs : List Connection) (c : Connection) where
       )
       refl
 
-  judged-6 : misplaced ns cs c ≡ true → Faulty 6 ≡ judgement_of (add_connection ns cs (some c))
+  judged-unfit : misplaced ns cs c ≡ true → Err EndsUnfit ≡ judgement_of (add_connection ns cs (some c))
   unfolding add_connection
-  judged-6 p = rw p refl
+  judged-unfit p = rw p refl
 
   judged-on : (b : Bool) → misplaced ns cs c ≡ false → supported ns cs c.why (cur c) (nxt c) ≡ b →
-      judgement_of (add_connection ns cs (some c)) ≡ cond b Taken (Faulty 7)
+      judgement_of (add_connection ns cs (some c)) ≡ cond b (Ok tt) (Err NoSupport)
   unfolding add_connection
   judged-on true p q = rw (p, q) refl
   judged-on false p q = rw (p, q) refl
 
-  pub out-current : length ns ≤ cur c → Faulty 6 ≡ judgement_of (add_connection ns cs (some c))
-  out-current h = judged-6 (mis-current h)
+  pub out-current : length ns ≤ cur c → Err EndsUnfit ≡ judgement_of (add_connection ns cs (some c))
+  out-current h = judged-unfit (mis-current h)
 
-  pub out-next : cur c < length ns → length ns ≤ nxt c → Faulty 6 ≡ judgement_of (add_connection ns cs (some c))
-  out-next l h = judged-6 (mis-next l h)
+  pub out-next : cur c < length ns → length ns ≤ nxt c → Err EndsUnfit ≡ judgement_of (add_connection ns cs (some c))
+  out-next l h = judged-unfit (mis-next l h)
 
-  pub has-parent : is_top (parent_of cs (cur c)) ≡ false → Faulty 6 ≡ judgement_of (add_connection ns cs (some c))
-  has-parent p = judged-6 (mis-parent p)
+  pub has-parent : is_top (parent_of cs (cur c)) ≡ false → Err EndsUnfit ≡ judgement_of (add_connection ns cs (some c))
+  has-parent p = judged-unfit (mis-parent p)
 
-  pub already : joined cs (cur c) (nxt c) ≡ true → Faulty 6 ≡ judgement_of (add_connection ns cs (some c))
-  already p = judged-6 (mis-joined p)
+  pub already : joined cs (cur c) (nxt c) ≡ true → Err EndsUnfit ≡ judgement_of (add_connection ns cs (some c))
+  already p = judged-unfit (mis-joined p)
 
-  -- where 6 is not given, the support decides
+  -- where the ends are not refused, the support decides
   pub record Placed : Type 0 where
     pub current-in : cur c < length ns
     pub next-in : nxt c < length ns
     pub free : parent_of cs (cur c) ≡ top
     pub apart : joined cs (cur c) (nxt c) ≡ false
 
-  pub by-rule : Placed → {n : RuleNo} {d : Direction} → c.why ≡ by_rule n d → Taken ≡ judgement_of (add_connection ns cs (some c))
+  pub by-rule : Placed → {n : RuleNo} {d : Direction} → c.why ≡ by_rule n d → Ok tt ≡ judgement_of (add_connection ns cs (some c))
   unfolding supported
   by-rule p w = sym (judged-on true (well-placed p.current-in p.next-in p.free p.apart) (rw w refl))
 
   pub by-support : Placed → c.why ≡ Congruence → (b : Bool) → supported ns cs Congruence (cur c) (nxt c) ≡ b →
-      cond b Taken (Faulty 7) ≡ judgement_of (add_connection ns cs (some c))
+      cond b (Ok tt) (Err NoSupport) ≡ judgement_of (add_connection ns cs (some c))
   by-support p w b q =
       sym (judged-on b (well-placed p.current-in p.next-in p.free p.apart) (ap (λ v. supported ns cs v (cur c) (nxt c)) w ∙ q))
 
@@ -105,28 +106,28 @@ supported-in n ws cs a b p q = rw (operator-in n ws a p, operator-in n ws b q, c
 
 -- an entry that is not there
 pub absent : (ns : List Node) (cs : List Connection) (o : Option Connection) → present o ≡ false →
-    Faulty 2 ≡ judgement_of (add_connection ns cs o)
+    Err NoEntry ≡ judgement_of (add_connection ns cs o)
 unfolding add_connection
 absent ns cs none p = refl
 absent ns cs (some c) p = absurd (false≢true (sym p))
 
 -- Judging a node, test by test.
 module _ (ns : List Node) (ws : List ℕ) (n : ℕ) where
-  pub node-short : length ws < n * node_words + node_words → Faulty 2 ≡ judgement_of (add_node ns (node_entry ws n))
+  pub node-short : length ws < n * node_words + node_words → Err NoEntry ≡ judgement_of (add_node ns (node_entry ws n))
   unfolding add_node node_entry
   node-short h = rw (lt-leb _ _ h) refl
 
-  pub node_wide : n * node_words + node_words ≤ length ws → child_limit < count_in ws n → Faulty 2 ≡ judgement_of (add_node ns (node_entry ws n))
+  pub node_wide : n * node_words + node_words ≤ length ws → child_limit < count_in ws n → Err NoEntry ≡ judgement_of (add_node ns (node_entry ws n))
   unfolding add_node node_entry
   node_wide r h = rw (le-leb _ _ r, lt-leb _ _ h) refl
 
   module _ (r : n * node_words + node_words ≤ length ws) (k : count_in ws n ≤ child_limit) where
-    pub node-many : node_limit ≤ length ns → Faulty 3 ≡ judgement_of (add_node ns (node_entry ws n))
+    pub node-many : node_limit ≤ length ns → Err TableFull ≡ judgement_of (add_node ns (node_entry ws n))
     unfolding add_node node_entry
     node-many h = rw (le-leb _ _ r, le-leb _ _ k, le-leb _ _ h) refl
 
     pub node-lower : length ns < node_limit → (b : Bool) → all_below (length ns) (children_in ws n) ≡ b →
-        cond b Taken (Faulty 4) ≡ judgement_of (add_node ns (node_entry ws n))
+        cond b (Ok tt) (Err ChildNotBelow) ≡ judgement_of (add_node ns (node_entry ws n))
     unfolding add_node node_entry
     node-lower h true p = rw (le-leb _ _ r, le-leb _ _ k, lt-leb _ _ h, p) refl
     node-lower h false p = rw (le-leb _ _ r, le-leb _ _ k, lt-leb _ _ h, p) refl

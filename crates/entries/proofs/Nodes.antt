@@ -11,11 +11,13 @@ use borrow.Author.Tests.{leb-false, leb-true, ltb-true, not-false}
 use lib.Dec.{leb, ltb}
 use lib.ListN.{get_or-append, get_or, length, length-append}
 use lib.Seq.{get_or_at}
+use Rattle.model.specs.declared.Refusal.TheVariants.{TableFull, ChildNotBelow}
 use Rattle.model.specs.Judged.{Judged, bad, good, judgement_of}
 use Rattle.model.specs.Limits.{child_limit, node_limit}
 use Rattle.model.specs.Node.{Node, add_node, all_below, kids_of, no_node, node_of, op_of}
 use Rattle.model.specs.Tables.{entries, node_at, node_entry, node_table, words_from, node_words, count_at, children_at}
-use Rattle.model.specs.declared.Judgement.TheVariants.{Faulty, Taken}
+use Rattle.std.proofs.Common.{Ok, Err}
+use Rattle.model.specs.declared.Refusal.{Refusal}
 use Rattle.laws.proofs.Judging.{faulty-bad, first-bad, one_more, taken, taken-good, whole}
 use Rattle.entries.specs.Nodes.{KnownIn, NodesStand, NodesWhole, children_in, count_in, first_nodes, nodes_to}
 
@@ -80,8 +82,8 @@ node-added : (ns : List Node) (e : Option Node) (new : List Node) → add_node n
 unfolding add_node
 node-added ns none new p = let z : ◌≡◌ {A = ℕ} 0 1 = cc in absurd (omega arith)
 node-added ns (some x) new p =
-    let a = taken (leb node_limit (length ns)) 3 _ _ p in
-    let b = taken (not (all_below (length ns) x.kids)) 4 _ _ a.1 in
+    let a = taken (leb node_limit (length ns)) TableFull _ _ p in
+    let b = taken (not (all_below (length ns) x.kids)) ChildNotBelow _ _ a.1 in
     record { node = x; entry = refl; few = leb-false _ _ a.0; lower = not-false _ b.0; is = cc }
 
 record NodeEntry (ws : List ℕ) (i : ℕ) (x : Node) : Type 0 where
@@ -140,15 +142,15 @@ nodes ws (suc k) ns p = go (nodes_to ws k) refl (nodes ws k)
         absurd (omega arith)
 
 -- the loop that judges a table of nodes
-pub node-bad : (ws : List ℕ) (k n : ℕ) → nodes_to ws k ≡ good (first_nodes k ws) → k * node_words < length ws →
-    Faulty n ≡ judgement_of (add_node (first_nodes k ws) (node_entry ws k)) → node_table ws ≡ bad n
+pub node-bad : (ws : List ℕ) (k : ℕ) (r : Refusal) → nodes_to ws k ≡ good (first_nodes k ws) → k * node_words < length ws →
+    Err r ≡ judgement_of (add_node (first_nodes k ws) (node_entry ws k)) → node_table ws ≡ bad r
 unfolding node_table
-node-bad ws k n s h p =
-    first-bad add_node (node_entry ws) [] (suc k) ((length ws + (node_words - 1)) / node_words) n
-    ((le-div_iff_mul-le (omega arith)).1 (omega arith)) (one_more add_node (node_entry ws) [] k s ∙ faulty-bad _ n p)
+node-bad ws k r s h p =
+    first-bad add_node (node_entry ws) [] (suc k) ((length ws + (node_words - 1)) / node_words) r
+    ((le-div_iff_mul-le (omega arith)).1 (omega arith)) (one_more add_node (node_entry ws) [] k s ∙ faulty-bad _ r p)
 
 pub node-more : (ws : List ℕ) (k : ℕ) → nodes_to ws k ≡ good (first_nodes k ws) →
-    Taken ≡ judgement_of (add_node (first_nodes k ws) (node_entry ws k)) → nodes_to ws (suc k) ≡ good (first_nodes (suc k) ws)
+    Ok tt ≡ judgement_of (add_node (first_nodes k ws) (node_entry ws k)) → nodes_to ws (suc k) ≡ good (first_nodes (suc k) ws)
 node-more ws k s p =
     let g = taken-good (add_node (first_nodes k ws) (node_entry ws k)) p in
     let q = one_more add_node (node_entry ws) [] k s ∙ g.is in
@@ -164,7 +166,7 @@ pub nodes-none : (ws : List ℕ) → nodes_to ws 0 ≡ good (first_nodes 0 ws)
 unfolding entries first_nodes
 nodes-none ws = refl
 
-pub nodes-whole : (ws : List ℕ) → Taken ≡ judgement_of (node_table ws) → NodesWhole ws
+pub nodes-whole : (ws : List ℕ) → Ok tt ≡ judgement_of (node_table ws) → NodesWhole ws
 unfolding node_table
 nodes-whole ws p =
     let g = taken-good (node_table ws) p in
@@ -173,7 +175,7 @@ nodes-whole ws p =
     record { stand = subst (NodesStand ws) e t.stand; is = g.is ∙ ap good (t.is ∙ ap (λ (k : ℕ). first_nodes k ws) e) }
 
 -- one entry more: a node
-pub node-stands : (ws : List ℕ) (n : ℕ) → NodesStand ws n → Taken ≡ judgement_of (add_node (first_nodes n ws) (node_entry ws n)) →
+pub node-stands : (ws : List ℕ) (n : ℕ) → NodesStand ws n → Ok tt ≡ judgement_of (add_node (first_nodes n ws) (node_entry ws n)) →
     Nodes ws (suc n) (first_nodes n ws ++ (node_at ws n ∷ []))
 unfolding first_nodes
 node-stands ws n s p =

@@ -1,13 +1,16 @@
--- What the program makes of a piece of the input, and of all pieces: a chain of steps, each from where the last one left off. Status 3 is
--- trouble in reading or writing: nothing says when a read or a write fails.
+-- What the program makes of a piece of the input, and of all pieces: a chain of steps, each from where the last one left off. Trouble is
+-- in reading or writing: nothing says when a read or a write fails.
 use Rattle.std.specs.Prelude.{ℕ, ◌≤◌, ◌<◌, List, [], ◌⊎◌, ◌≡◌, length, take}
-use Rattle.frames.specs.Ran.{Store}
+use Rattle.std.specs.declared.ops.ControlFlow.{ControlFlow}
+use Rattle.std.specs.declared.ops.ControlFlow.TheVariants.{Continue, Break}
+use Rattle.frames.specs.declared.Store.{Store}
 use Rattle.reader.specs.declared.Place.{Place}
-use Rattle.reader.specs.declared.Advance.TheVariants.{Stops}
-use Rattle.reader.specs.Reading.{kept_line}
-use Rattle.reader.specs.Fold.{ReadsOn, Through, Prints, at_first, end_status}
-use Rattle.explain.specs.declared.input.Reading.{Reading}
-use Rattle.explain.specs.declared.input.Reading.TheVariants.{Goes as Behind, Ends as Over}
+use Rattle.reader.specs.Reading.{kept_line, Advanced}
+use Rattle.reader.specs.Fold.{Through, Prints, at_first, end_status}
+use Rattle.explain.specs.declared.input.Memory.{Memory}
+use Rattle.explain.specs.declared.input.Outcome.{Outcome}
+use Rattle.explain.specs.declared.input.Outcome.TheVariants.{Stopped, Trouble}
+use Rattle.explain.specs.Reading.{digit_of}
 
 -- the chain comes to a place in the piece, and there the run is stopped
 pub record StoppedIn (piece : List ℕ) (p : Place) (t : Store) (line : List ℕ) : Type 0 where
@@ -18,31 +21,30 @@ pub record StoppedIn (piece : List ℕ) (p : Place) (t : Store) (line : List ℕ
   pub came : Through piece p t line 0 at tables kept from
   pub count : ℕ
   pub behind : Store
-  pub room : List ℕ
-  pub is : ReadsOn at tables piece from (Stops count) (kept_line kept at.held piece from) behind room
+  pub is : Advanced at tables piece from (Break count) (kept_line kept at.held piece from) behind
 
 -- a piece is read to its end, or the run is over
-abbrev pub PieceTaken : Place → Store → List ℕ → List ℕ → Reading → Store → List ℕ → Type 0
-PieceTaken p t line piece (Behind q) u kept = Through piece p t line 0 q u kept (length piece)
-PieceTaken p t line piece (Over status) u kept = (status ≡ 3) ⊎ ((status ≡ 2) × StoppedIn piece p t line)
+abbrev pub PieceTaken : Place → Memory → List ℕ → ControlFlow Outcome Place → Memory → Type 0
+PieceTaken p m piece (Continue q) n = Through piece p m.store m.line 0 q n.store n.line (length piece)
+PieceTaken p m piece (Break outcome) n = (outcome ≡ Trouble) ⊎ ((outcome ≡ Stopped) × StoppedIn piece p m.store m.line)
 
 -- bytes were read, and they are the piece: so many, at the front of the buffer
-pub record SomeRead (p : Place) (t : Store) (line buffer : List ℕ) (r : Reading) (u : Store) (kept : List ℕ) : Type 0 where
+pub record SomeRead (p : Place) (m : Memory) (buffer : List ℕ) (r : ControlFlow Outcome Place) (n : Memory) : Type 0 where
   pub count : ℕ
   pub some : 0 < count
   pub fits : count ≤ length buffer
-  pub taken : PieceTaken p t line (take count buffer) r u kept
+  pub taken : PieceTaken p m (take count buffer) r n
 
 -- the end of the input: what it prints is written, or not
-abbrev pub Ended : Place → ℕ → Type 0
-Ended p status = (status ≡ 3) ⊎ (status ≡ end_status p)
+abbrev pub Ended : Place → Outcome → Type 0
+Ended p outcome = (outcome ≡ Trouble) ⊎ (digit_of outcome ≡ end_status p)
 
-abbrev pub NoneRead : Place → Reading → Type 0
-NoneRead p (Behind q) = ⊥
-NoneRead p (Over status) = Ended p status
+abbrev pub NoneRead : Place → ControlFlow Outcome Place → Type 0
+NoneRead p (Continue q) = ⊥
+NoneRead p (Break outcome) = Ended p outcome
 
-abbrev pub PieceRead : Place → Store → List ℕ → List ℕ → Reading → Store → List ℕ → Type 0
-PieceRead p t line buffer r u kept = SomeRead p t line buffer r u kept ⊎ NoneRead p r
+abbrev pub PieceRead : Place → Memory → List ℕ → ControlFlow Outcome Place → Memory → Type 0
+PieceRead p m buffer r n = SomeRead p m buffer r n ⊎ NoneRead p r
 
 -- There are pieces over which the run comes to a status. They are not named: C's `read` says how many bytes it puts into the buffer, and
 -- not which. So a run over no pieces fits as well, as over an empty input.
@@ -51,5 +53,5 @@ pub record RunTo (t : Store) (line : List ℕ) (status : ℕ) : Type 0 where
   pub out : List ℕ
   pub prints : Prints at_first t line [] 0 pieces out status
 
-abbrev pub CameTo : Store → List ℕ → ℕ → Type 0
-CameTo t line status = (status ≡ 3) ⊎ RunTo t line status
+abbrev pub CameTo : Memory → Outcome → Type 0
+CameTo m outcome = (outcome ≡ Trouble) ⊎ RunTo m.store m.line (digit_of outcome)

@@ -3,35 +3,55 @@ ghost use Rattle.std.specs.Prelude.{◌≡◌, ◌≤◌, length};
 ghost use Rattle.frames.specs.State.{text_room};
 ghost use Rattle.reader.specs.Reading.{kept_line};
 ghost use Rattle.reader.specs.Fold.{at_first};
-ghost use Rattle.explain.specs.Reading.{stored, Ready, Rooms, Fits, Shown, Step};
+ghost use Rattle.explain.specs.Reading.{digit_of, Ready, Fits, Shown, Step};
 ghost use Rattle.explain.specs.Pieces.{PieceTaken, Ended, PieceRead, CameTo};
 
-use frames::{Counts, finish};
+use frames::{Counts, Store, finish};
+use hex_lines::DIGIT_LIMIT;
+use pieces::KEPT_LIMIT;
 use reader::{Advance, Place, read_on};
 use std::io::{self, Eprint, Input, Read, Write};
+use std::ops::ControlFlow;
+
+// A byte of a frame takes two digits of its line.
+pub const FRAME_ROOM: usize = DIGIT_LIMIT / 2;
+
+// What the program holds beside the piece that it reads: the line that is open, the bytes that a line spells, and the store.
+#[derive(Drop)]
+pub struct Memory {
+    pub line: [u8; KEPT_LIMIT],
+    pub bytes: [u8; FRAME_ROOM],
+    pub store: Store,
+}
 
 // What a run comes to: everything is answered and accepted, some query is refused or proof rejected, a refusal stopped it, or there
 // is trouble with the input or the output.
-pub const ALL_WELL: u8 = 0;
-
-pub const SOME_REFUSED: u8 = 1;
-
-pub const STOPPED: u8 = 2;
-
-pub const TROUBLE: u8 = 3;
-
-// After a line, or what is left of a piece: where to go on in the piece, or the run is over.
-#[derive(Clone, Copy)]
-enum Stepped {
-    Goes(Place, usize),
-    Ends(u8),
+#[derive(Clone, Copy, PartialEq, Eq)]
+pub enum Outcome {
+    AllWell,
+    SomeRefused,
+    Stopped,
+    Trouble,
 }
 
-// After a piece: the place, or the run is over.
-#[derive(Clone, Copy)]
-enum Reading {
-    Goes(Place),
-    Ends(u8),
+// After a line, or what is left of a piece: where to go on, and at which place in the piece, or the run is over.
+type Stepped = ControlFlow<Outcome, (Place, usize)>;
+
+// After a piece: where to go on, or the run is over.
+type Reading = ControlFlow<Outcome, Place>;
+
+impl Outcome {
+    // The digit that says it.
+    pub fn digit(self) -> u8
+        ensures { result ≡ digit_of self }
+    {
+        match self {
+            Outcome::AllWell => 0,
+            Outcome::SomeRefused => 1,
+            Outcome::Stopped => 2,
+            Outcome::Trouble => 3,
+        }
+    }
 }
 
 // Tells a failure of the input or the output on standard error. Where that fails too, nobody is left to tell.
@@ -58,170 +78,102 @@ fn show(rt: &HostRuntime, advance: Advance, room: &[u8]) -> Stepped
     ensures { Shown advance result }
 {
     match advance {
-        Advance::Goes(place, to, count) => {
+        ControlFlow::Continue((place, to, count)) => {
             if print(rt, room, count) {
-                Stepped::Goes(place, to)
+                ControlFlow::Continue((place, to))
             } else {
-                Stepped::Ends(TROUBLE)
+                ControlFlow::Break(Outcome::Trouble)
             }
         }
-        Advance::Stops(count) => {
+        ControlFlow::Break(count) => {
             if print(rt, room, count) {
-                Stepped::Ends(STOPPED)
+                ControlFlow::Break(Outcome::Stopped)
             } else {
-                Stepped::Ends(TROUBLE)
+                ControlFlow::Break(Outcome::Trouble)
             }
         }
     }
 }
 
 // Reads on in a piece, and prints what that comes to.
-fn step(
-    rt: &HostRuntime,
-    place: Place,
-    piece: &[u8],
-    from: usize,
-    line: &mut [u8],
-    bytes: &mut [u8],
-    nodes: &mut [u16],
-    rules: &mut [u16],
-    conns: &mut [u16],
-    classes: &mut [u16],
-    area: &mut [u16],
-    room: &mut [u8],
-) -> Stepped
-    requires ready { Ready place (stored nodes.old rules.old conns.old classes.old area.old) × Rooms line.old bytes.old nodes.old rules.old conns.old classes.old area.old room.old }
+fn step(rt: &HostRuntime, place: Place, piece: &[u8], from: usize, memory: &mut Memory) -> Stepped
+    requires ready { Ready place memory.old.store }
     requires from_in_bounds { from ≤ length piece.now }
-    ensures step { Step place (stored nodes.old rules.old conns.old classes.old area.old) piece.now from result line.new (stored nodes.new rules.new conns.new classes.new area.new) room.new }
-    ensures line_after { line.new ≡ kept_line line.old place.held piece.now from }
+    ensures step { Step place memory.old.store piece.now from result memory.new.line memory.new.store }
+    ensures line_after { memory.new.line ≡ kept_line memory.old.line place.held piece.now from }
 {
     let advance = read_on(
-        place, piece, from, line, bytes, nodes, rules, conns, classes, area, room,
+        place,
+        piece,
+        from,
+        &mut memory.line,
+        &mut memory.bytes,
+        &mut memory.store,
     );
-    show(rt, advance, room)
+    show(rt, advance, &memory.store.room)
 }
 
-// Reads a piece to its end, or until the run is over.
-fn take_piece(
-    rt: &HostRuntime,
-    mut place: Place,
-    piece: &[u8],
-    line: &mut [u8],
-    bytes: &mut [u8],
-    nodes: &mut [u16],
-    rules: &mut [u16],
-    conns: &mut [u16],
-    classes: &mut [u16],
-    area: &mut [u16],
-    room: &mut [u8],
-) -> Reading
-    requires { Ready place (stored nodes.old rules.old conns.old classes.old area.old) × Rooms line.old bytes.old nodes.old rules.old conns.old classes.old area.old room.old }
-    ensures { PieceTaken place (stored nodes.old rules.old conns.old classes.old area.old) line.old piece.now result (stored nodes.new rules.new conns.new classes.new area.new) line.new }
+// Reads a piece to its end, or until the run is over. A step says where to read on, so no `for` can count the place.
+fn take_piece(rt: &HostRuntime, mut place: Place, piece: &[u8], memory: &mut Memory) -> Reading
+    requires { Ready place memory.old.store }
+    ensures { PieceTaken place memory.old piece.now result memory.new }
 {
     let mut from = 0;
     while from < piece.len() {
-        match step(
-            rt, place, piece, from, line, bytes, nodes, rules, conns, classes, area, room,
-        ) {
-            Stepped::Goes(next, to) => {
-                place = next;
-                from = to;
-            }
-            Stepped::Ends(status) => return Reading::Ends(status),
-        }
+        let (next, to) = step(rt, place, piece, from, memory)?;
+        place = next;
+        from = to;
     }
-    Reading::Goes(place)
+    ControlFlow::Continue(place)
 }
 
 // The end of the input: what is printed then, and what the run came to.
-fn end(rt: &HostRuntime, place: Place, room: &mut [u8]) -> u8
+fn end(rt: &HostRuntime, place: Place, room: &mut [u8]) -> Outcome
     requires { length room.old ≡ text_room }
     ensures { Ended place result }
 {
     let counts = place.counts;
     let count = finish(counts, place.line, place.held, room);
     if !print(rt, room, count) {
-        return TROUBLE;
+        return Outcome::Trouble;
     }
     if count != 0 {
-        return STOPPED;
+        return Outcome::Stopped;
     }
     if place.refused {
-        SOME_REFUSED
-    } else {
-        ALL_WELL
+        return Outcome::SomeRefused;
     }
+    Outcome::AllWell
 }
 
 // One piece read from standard input and taken; the run is over where there is none.
-fn read_piece(
-    rt: &HostRuntime,
-    place: Place,
-    piece: &mut [u8],
-    line: &mut [u8],
-    bytes: &mut [u8],
-    nodes: &mut [u16],
-    rules: &mut [u16],
-    conns: &mut [u16],
-    classes: &mut [u16],
-    area: &mut [u16],
-    room: &mut [u8],
-) -> Reading
-    requires { Ready place (stored nodes.old rules.old conns.old classes.old area.old) × Rooms line.old bytes.old nodes.old rules.old conns.old classes.old area.old room.old }
-    ensures { PieceRead place (stored nodes.old rules.old conns.old classes.old area.old) line.old piece.new result (stored nodes.new rules.new conns.new classes.new area.new) line.new }
+fn read_piece(rt: &HostRuntime, place: Place, piece: &mut [u8], memory: &mut Memory) -> Reading
+    requires { Ready place memory.old.store }
+    ensures { PieceRead place memory.old piece.new result memory.new }
 {
     match rt.reader().read(piece) {
         Err(error) => {
             tell(rt, "input", &error);
-            Reading::Ends(TROUBLE)
+            ControlFlow::Break(Outcome::Trouble)
         }
-        Ok(0) => Reading::Ends(end(rt, place, room)),
-        Ok(n) => take_piece(
-            rt,
-            place,
-            &piece[..n],
-            line,
-            bytes,
-            nodes,
-            rules,
-            conns,
-            classes,
-            area,
-            room,
-        ),
+        Ok(0) => ControlFlow::Break(end(rt, place, &mut memory.store.room)),
+        Ok(n) => take_piece(rt, place, &piece[..n], memory),
     }
 }
 
-// Reads standard input to its end. A proved loop has to end, and nothing says that the input does, so the loop counts its turns
-// down, from a number that no run uses up.
-pub fn read_all(
-    rt: &HostRuntime,
-    piece: &mut [u8],
-    line: &mut [u8],
-    bytes: &mut [u8],
-    nodes: &mut [u16],
-    rules: &mut [u16],
-    conns: &mut [u16],
-    classes: &mut [u16],
-    area: &mut [u16],
-    room: &mut [u8],
-) -> u8
-    requires { Rooms line.old bytes.old nodes.old rules.old conns.old classes.old area.old room.old }
-    ensures { CameTo (stored nodes.old rules.old conns.old classes.old area.old) line.old result }
+// Reads standard input to its end. A proved loop has to end, and nothing says that the input does, so the loop is held at a number
+// of turns that no run uses up.
+pub fn read_all(rt: &HostRuntime, piece: &mut [u8], memory: &mut Memory) -> Outcome
+    ensures { CameTo memory.old result }
 {
-    let mut turns = u64::MAX;
     let mut at = first();
-    while turns > 0 {
-        let reading = read_piece(
-            rt, at, piece, line, bytes, nodes, rules, conns, classes, area, room,
-        );
-        match reading {
-            Reading::Goes(next) => at = next,
-            Reading::Ends(status) => return status,
+    for _ in 0..u64::MAX {
+        match read_piece(rt, at, piece, memory) {
+            ControlFlow::Continue(next) => at = next,
+            ControlFlow::Break(outcome) => return outcome,
         }
-        turns -= 1;
     }
-    TROUBLE
+    Outcome::Trouble
 }
 
 // Before the first byte.

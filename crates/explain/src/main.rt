@@ -2,21 +2,15 @@
 // what the run came to as one digit on descriptor 3, and ends with status 0.
 #![tactic(auto)]
 
-ghost use Rattle.std.specs.Prelude.{◌<◌};
-
 mod input;
 
-use frames::{AREA_WORDS, CONNECTION_ROOM, NODE_ROOM, RULE_ROOM, TEXT_ROOM};
-use hex_lines::DIGIT_LIMIT;
-use input::read_all;
+use frames::{AREA_WORDS, CONNECTION_ROOM, NODE_ROOM, RULE_ROOM, Store, TEXT_ROOM};
+use input::{FRAME_ROOM, Memory, Outcome, read_all};
 use model::NODE_LIMIT;
 use pieces::KEPT_LIMIT;
 use std::env::{Env, FillError};
 use std::fs::{File, OpenOptions};
 use std::io::{Read, Write};
-
-// A byte of a frame takes two digits of its line.
-const FRAME_ROOM: usize = DIGIT_LIMIT / 2;
 
 // How many bytes are read at a time.
 const PIECE_BYTES: usize = 65536;
@@ -61,41 +55,32 @@ fn is_open(rt: &HostRuntime) -> bool {
     }
 }
 
-// Writes the status as one digit on descriptor 3. Where nobody holds that open to be written, nobody is told.
-fn tell_status(rt: &HostRuntime, status: u8)
-    requires { status < 10 }
-{
+// Writes what the run came to as one digit on descriptor 3. Where nobody holds that open to be written, nobody is told.
+fn tell_status(rt: &HostRuntime, outcome: Outcome) {
     if !is_open(rt) {
         return;
     }
     if let Ok(mut file) = OpenOptions::new().append(true).open(rt, STATUS_FILE) {
-        let _ = file.write_all(&[b'0' + status]);
+        let _ = file.write_all(&[b'0' + outcome.digit()]);
     }
 }
 
 fn main(rt: HostRuntime) {
     let mut piece = [0u8; PIECE_BYTES];
-    let mut line = [0u8; KEPT_LIMIT];
-    let mut bytes = [0u8; FRAME_ROOM];
-    let mut nodes = [0u16; NODE_ROOM];
-    let mut rules = [0u16; RULE_ROOM];
-    let mut conns = [0u16; CONNECTION_ROOM];
-    let mut classes = [0u16; NODE_LIMIT];
-    let mut area = [0u16; AREA_WORDS];
-    let mut room = [0u8; TEXT_ROOM];
-    let status = read_all(
-        &rt,
-        &mut piece,
-        &mut line,
-        &mut bytes,
-        &mut nodes,
-        &mut rules,
-        &mut conns,
-        &mut classes,
-        &mut area,
-        &mut room,
-    );
+    let mut memory = Memory {
+        line: [0; KEPT_LIMIT],
+        bytes: [0; FRAME_ROOM],
+        store: Store {
+            nodes: [0; NODE_ROOM],
+            rules: [0; RULE_ROOM],
+            conns: [0; CONNECTION_ROOM],
+            classes: [0; NODE_LIMIT],
+            area: [0; AREA_WORDS],
+            room: [0; TEXT_ROOM],
+        },
+    };
+    let outcome = read_all(&rt, &mut piece, &mut memory);
     if is_asked(&rt) {
-        tell_status(&rt, status);
+        tell_status(&rt, outcome);
     }
 }

@@ -11,12 +11,16 @@ use mathlib.Core.Path.{◌≡◌, refl, sym, ap, subst, ◌∙◌}
 use contract.Lifetimes.{Lfts}
 use lib.ListN.{length, take}
 use lib.Seq.{take_at}
-use Rattle.model.specs.declared.Answer.{Answer}
-use Rattle.model.specs.declared.Answer.TheVariants.{Written}
-use Rattle.model.specs.declared.Measured.{Measured}
-use Rattle.model.specs.declared.Printed.{Printed}
-use Rattle.model.specs.declared.Verdict.{Verdict}
-use Rattle.model.specs.declared.Verdict.TheVariants.{Accepted, Rejected}
+use Rattle.std.proofs.Common.{Ok, Err}
+use Rattle.model.specs.declared.Written.{Written}
+use Rattle.laws.proofs.Handed.{same_ok}
+use Rattle.model.specs.Query.{written}
+use Rattle.model.specs.Verdict.{rejection}
+use Rattle.model.specs.declared.Refusal.{Refusal}
+use Rattle.model.specs.Query.{Answer}
+use Rattle.model.specs.Query.{Measured}
+use Rattle.model.specs.Text.{Printed}
+use Rattle.model.specs.Verdict.{Verdict}
 use Rattle.model.specs.Judged.{good, bad}
 use Rattle.model.specs.Premise.{Premise}
 use Rattle.model.specs.Query.{Tables, distance_in, proof_words}
@@ -51,14 +55,14 @@ module _ (nws rws cws : List ℕ) (area l r : ℕ) where
 
   -- what was written, the strict checker accepts
   accepted-back : (t : Tables) → judge_tables nws rws cws ≡ good t → Premise t.rules t.nodes t.conns → (d w : ℕ) →
-      Written d w ≡ answer_by (judge_tables nws rws cws) area l r →
-      verdict_by (judge_tables nws rws cws) (take w (area_of (judge_tables nws rws cws) area l r)) ≡ Accepted (suc d)
+      Ok (written d w) ≡ answer_by (judge_tables nws rws cws) area l r →
+      verdict_by (judge_tables nws rws cws) (take w (area_of (judge_tables nws rws cws) area l r)) ≡ Ok (suc d)
   accepted-back t e p d w k =
       let g = grants nws rws cws t e area l r (answered nws rws cws t e area l r d w (sym k)) in
-      let f = k ∙ g.answers in
-      let n : length (proof_words t l r) ≡ w = cc in
-      let m : suc (distance_in t l r) ≡ suc d = cc in
-      ap (verdict_by (judge_tables nws rws cws)) (ap (take w) g.lent ∙ take_at (proof_words t l r) _ w n) ∙ (g.accepted p ∙ ap Accepted m)
+      let f : written d w ≡ written (distance_in t l r) (length (proof_words t l r)) = same_ok (k ∙ g.answers) in
+      let n : length (proof_words t l r) ≡ w = sym (ap (λ (x : Written). x.words) f) in
+      let m : suc (distance_in t l r) ≡ suc d = ap (λ (x : Written). suc x.distance) (sym f) in
+      ap (verdict_by (judge_tables nws rws cws)) (ap (take w) g.lent ∙ take_at (proof_words t l r) _ w n) ∙ (g.accepted p ∙ ap Ok m)
 
 -- DEMAND 1 of `query`
 pub demand-1 : (κs : Lfts 4) (a s : _) (r : Answer) → query.Post κs a r s →
@@ -81,8 +85,8 @@ demand-1-check κs a s v p =
     (first-rejected a.0.now a.1.0.now a.1.1.0.now a.1.1.1.0.now)
 
 -- bad tables come before all else in it too
-pub bad-first : (κs : Lfts 4) (a s : _) (v : Verdict) → check.Post κs a v s → (n : ℕ) →
-    judge_tables a.0.now a.1.0.now a.1.1.0.now ≡ bad n → v ≡ Rejected n 0
+pub bad-first : (κs : Lfts 4) (a s : _) (v : Verdict) → check.Post κs a v s → (n : Refusal) →
+    judge_tables a.0.now a.1.0.now a.1.1.0.now ≡ bad n → v ≡ Err (rejection n 0)
 bad-first κs a s v p = (demand-1-check κs a s v p).tables
 
 -- DEMAND 1 of `distance`
@@ -109,18 +113,18 @@ demand-1-text κs a s r p = rw (p.0, p.1) (first-printed a.0.now (length a.1.0.n
 -- DEMAND 2 of `check`: n terms are accepted exactly where the words are a strict proof of n terms within the limits
 pub demand-2 : (κs : Lfts 4) (a s : _) (v : Verdict) → check.Post κs a v s → (t : Tables) →
     judge_tables a.0.now a.1.0.now a.1.1.0.now ≡ good t → (n : ℕ) →
-    (v ≡ Accepted n) ↔ Proves t.rules a.1.1.1.0.now n
+    (v ≡ Ok n) ↔ Proves t.rules a.1.1.1.0.now n
 demand-2 κs a s v p t e n =
-    subst (λ (x : Verdict). (x ≡ Accepted n) ↔ Proves t.rules a.1.1.1.0.now n) (sym p)
+    subst (λ (x : Verdict). (x ≡ Ok n) ↔ Proves t.rules a.1.1.1.0.now n) (sym p)
     (strict a.0.now a.1.0.now a.1.1.0.now t e a.1.1.1.0.now n)
 
 -- and, in the words of Baader and Nipkow, exactly where they are a chain of n - 1 rewrites by listed rules, one a later term, each read off
 -- its term's one mark
 pub demand-2-book : (κs : Lfts 4) (a s : _) (v : Verdict) → check.Post κs a v s → (t : Tables) →
     judge_tables a.0.now a.1.0.now a.1.1.0.now ≡ good t → (n : ℕ) →
-    (v ≡ Accepted n) ↔ Rewriting t.rules a.1.1.1.0.now n
+    (v ≡ Ok n) ↔ Rewriting t.rules a.1.1.1.0.now n
 demand-2-book κs a s v p t e n =
-    subst (λ (x : Verdict). (x ≡ Accepted n) ↔ Rewriting t.rules a.1.1.1.0.now n) (sym p)
+    subst (λ (x : Verdict). (x ≡ Ok n) ↔ Rewriting t.rules a.1.1.1.0.now n) (sym p)
     (in-the-book a.0.now a.1.0.now a.1.1.0.now t e a.1.1.1.0.now n)
 
 -- DEMAND 3 of `query`: what is granted, of the result and of the lent area
@@ -137,8 +141,8 @@ demand-3 κs a s r p t e k = (p.0, p.1, grants a.0.now a.1.0.now a.1.1.0.now t e
 -- distance + 1 terms
 pub round_trip : (κs κs' : Lfts 4) (a s b s' : _) (r : Answer) (v : Verdict) → query.Post κs a r s → check.Post κs' b v s' → (t : Tables) →
     judge_tables a.0.now a.1.0.now a.1.1.0.now ≡ good t → Premise t.rules t.nodes t.conns →
-    b.0.now ≡ a.0.now → b.1.0.now ≡ a.1.0.now → b.1.1.0.now ≡ a.1.1.0.now → (d w : ℕ) → r ≡ Written d w →
-    b.1.1.1.0.now ≡ take w s.1.1.1.1.1.0.now → v ≡ Accepted (suc d)
+    b.0.now ≡ a.0.now → b.1.0.now ≡ a.1.0.now → b.1.1.0.now ≡ a.1.1.0.now → (d w : ℕ) → r ≡ Ok (written d w) →
+    b.1.1.1.0.now ≡ take w s.1.1.1.1.1.0.now → v ≡ Ok (suc d)
 round_trip κs κs' a s b s' r v p q t e i n m c d w f ws =
     q
     ∙ again b.0.now a.0.now n b.1.0.now a.1.0.now m b.1.1.0.now a.1.1.0.now c b.1.1.1.0.now _ (ws ∙ ap (take w) p.1)

@@ -8,9 +8,12 @@ use mathlib.Core.Logic.{◌↔◌}
 use mathlib.Core.Path.{◌≡◌, refl, ap, ◌∙◌}
 use native.Mathlib.Omega.{arith}
 use lib.ListN.{length, replicate, length-replicate, length-append}
-use Rattle.model.specs.declared.Answer.{Answer}
-use Rattle.model.specs.declared.Answer.TheVariants.{Written, Refused}
-use Rattle.model.specs.declared.Verdict.TheVariants.{Rejected}
+use Rattle.std.proofs.Common.{Ok, Err}
+use Rattle.model.specs.Query.{written}
+use Rattle.model.specs.Verdict.{rejection}
+use Rattle.model.specs.declared.Refusal.{Refusal}
+use Rattle.model.specs.declared.Refusal.TheVariants.{NoNode, NotJoined, TooFar, NoRoom}
+use Rattle.model.specs.Query.{Answer}
 use Rattle.model.specs.Limits.{distance_limit}
 use Rattle.model.specs.Judged.{Judged, good, bad}
 use Rattle.model.specs.Forest.{Linked}
@@ -46,37 +49,37 @@ module _ (nws rws cws : List ℕ) (t : Tables) (are : judge_tables nws rws cws �
       }
 
   -- an answer is given only then
-  pub answered : (d w : ℕ) → answer_by (judge_tables nws rws cws) area l r ≡ Written d w → Asked t area l r
+  pub answered : (d w : ℕ) → answer_by (judge_tables nws rws cws) area l r ≡ Ok (written d w) → Asked t area l r
   answered d w e = answers.answered t ok area l r d w (rw are at e)
 
-  pub refused-8 : (answer_by (judge_tables nws rws cws) area l r ≡ Refused 8) ↔ Missing t l r
+  pub refused-8 : (answer_by (judge_tables nws rws cws) area l r ≡ Err NoNode) ↔ Missing t l r
   refused-8 = rw are (answers.refused-8 t ok area l r)
 
-  pub refused-9 : (answer_by (judge_tables nws rws cws) area l r ≡ Refused 9) ↔ (Known t l r × Unlinked t l r)
+  pub refused-9 : (answer_by (judge_tables nws rws cws) area l r ≡ Err NotJoined) ↔ (Known t l r × Unlinked t l r)
   refused-9 = rw are (answers.refused-9 t ok area l r)
 
-  pub refused-10 : (answer_by (judge_tables nws rws cws) area l r ≡ Refused 10)
+  pub refused-10 : (answer_by (judge_tables nws rws cws) area l r ≡ Err TooFar)
       ↔ (Known t l r × Linked t.conns l r × (distance_limit < distance_in t l r))
   refused-10 = rw are (answers.refused-10 t ok area l r)
 
-  pub refused-11 : (answer_by (judge_tables nws rws cws) area l r ≡ Refused 11)
+  pub refused-11 : (answer_by (judge_tables nws rws cws) area l r ≡ Err NoRoom)
       ↔ (Known t l r × Linked t.conns l r × (distance_in t l r ≤ distance_limit) × Exceeds t area l r)
   refused-11 = rw are (answers.refused-11 t ok area l r)
 
 -- "a query or check over bad ones returns that number"
-pub bad-tables : (nws rws cws : List ℕ) (n : ℕ) → judge_tables nws rws cws ≡ bad n → (area l r : ℕ) (ws : List ℕ)
-    → (answer_by (judge_tables nws rws cws) area l r ≡ Refused n) × (verdict_by (judge_tables nws rws cws) ws ≡ Rejected n 0)
+pub bad-tables : (nws rws cws : List ℕ) (n : Refusal) → judge_tables nws rws cws ≡ bad n → (area l r : ℕ) (ws : List ℕ)
+    → (answer_by (judge_tables nws rws cws) area l r ≡ Err n) × (verdict_by (judge_tables nws rws cws) ws ≡ Err (rejection n 0))
 bad-tables nws rws cws n e area l r ws = (rw e refl, rw e refl)
 
 -- a refusal leaves the area all zero, over bad tables too
-pub refused-zero : (j : Judged Tables) (area l r n : ℕ) → answer_by j area l r ≡ Refused n → area_of j area l r ≡ replicate area 0
+pub refused-zero : (j : Judged Tables) (area l r : ℕ) (n : Refusal) → answer_by j area l r ≡ Err n → area_of j area l r ≡ replicate area 0
 unfolding area_after
 refused-zero (bad m) area l r n e = refl
 refused-zero (good t) area l r n e = rw e refl
 
 -- and the area is always as long as it was
 module _ (nws rws cws : List ℕ) (area l r : ℕ) where
-  zeros : {n : ℕ} → answer_by (judge_tables nws rws cws) area l r ≡ Refused n → length (area_of (judge_tables nws rws cws) area l r) ≡ area
+  zeros : {n : Refusal} → answer_by (judge_tables nws rws cws) area l r ≡ Err n → length (area_of (judge_tables nws rws cws) area l r) ≡ area
   zeros e = ap length (refused-zero (judge_tables nws rws cws) area l r _ e) ∙ length-replicate {A = ℕ} area 0
 
   pub area-kept : length (area_of (judge_tables nws rws cws) area l r) ≡ area

@@ -6,10 +6,10 @@ use mathlib.Core.List.{List, [], ◌∷◌, ◌++◌}
 use mathlib.Core.Path.{◌≡◌, refl}
 use native.Mathlib.Omega.{arith}
 use lib.ListN.{length, replicate}
-use Rattle.model.specs.declared.Answer.TheVariants.{Written}
+use Rattle.std.proofs.Common.{Ok}
+use Rattle.model.specs.Query.{written}
 use Rattle.model.specs.declared.Direction.TheVariants.{Forward}
 use Rattle.model.specs.declared.Justification.TheVariants.{Rule as by_rule, Congruence}
-use Rattle.model.specs.declared.Verdict.TheVariants.{Accepted}
 use Rattle.model.specs.Judged.{good}
 use Rattle.model.specs.Term.{Mark, unmarked, marked, Terms, no_terms, tree, strip, words, count, Narrow}
 use Rattle.model.specs.Pattern.{no_patterns, app, inst}
@@ -90,7 +90,7 @@ granted : Granted (judge_tables nodes rules connections) t 20 2 3
 granted = demand-3 nodes rules connections t are 20 2 3 asked
 
 -- so the answer is distance 1 and 16 words, the area holds P1's two terms and zeros, and the checker accepts two terms
-answer-is : answer_by (judge_tables nodes rules connections) 20 2 3 ≡ Written 1 16
+answer-is : answer_by (judge_tables nodes rules connections) 20 2 3 ≡ Ok (written 1 16)
 unfolding t dist flat_proof words
 answer-is = granted.answers
 
@@ -101,7 +101,7 @@ area-is : area_of (judge_tables nodes rules connections) 20 2 3 ≡ offered ++ r
 unfolding t offered dist flat_proof words count
 area-is = granted.lent
 
-verdict-is : verdict_by (judge_tables nodes rules connections) offered ≡ Accepted 2
+verdict-is : verdict_by (judge_tables nodes rules connections) offered ≡ Ok 2
 unfolding t offered dist flat_proof words count
 verdict-is = granted.accepted premise
 
@@ -145,5 +145,5 @@ rewritten =
       few_terms = omega arith;
     }
 
-rewritten-accepted : verdict_by (judge_tables nodes rules connections) offered ≡ Accepted 2
+rewritten-accepted : verdict_by (judge_tables nodes rules connections) offered ≡ Ok 2
 rewritten-accepted = (demand-2-book nodes rules connections t are offered 2).1 rewritten

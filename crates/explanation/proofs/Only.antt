@@ -3,9 +3,9 @@
 use mathlib.Core.List.{[]}
 use mathlib.Core.Path.{◌≡◌, refl, sym, ◌∙◌}
 use contract.Lifetimes.{Lfts}
-use Rattle.model.specs.declared.Answer.{Answer}
-use Rattle.model.specs.declared.Measured.{Measured}
-use Rattle.model.specs.declared.Verdict.{Verdict}
+use Rattle.model.specs.Query.{Answer}
+use Rattle.model.specs.Query.{Measured}
+use Rattle.model.specs.Verdict.{Verdict}
 use Rattle.model.specs.Query.{Tables}
 use Rattle.entries.specs.Nodes.{nodes_of}
 use Rattle.forest.specs.Rows.{connections_of}

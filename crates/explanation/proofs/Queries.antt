@@ -8,16 +8,19 @@ use native.Mathlib.Omega.{arith}
 use borrow.Author.Tests.{lt-ltb, le-ltb, ltb-false}
 use lib.Dec.{ltb}
 use lib.ListN.{length, take, replicate}
-use Rattle.model.specs.declared.Answer.TheVariants.{Written, Refused}
-use Rattle.model.specs.declared.Judgement.TheVariants.{Faulty}
-use Rattle.model.specs.declared.Measured.TheVariants.{Distance, Unmeasured}
+use Rattle.std.proofs.Common.{Ok, Err}
+use Rattle.model.specs.declared.Written.{Written}
+use Rattle.laws.proofs.Handed.{same_ok, ok_err}
+use Rattle.model.specs.Query.{written}
+use Rattle.model.specs.declared.Refusal.{Refusal}
+use Rattle.model.specs.declared.Refusal.TheVariants.{NoRoom}
 use Rattle.model.specs.declared.Connection.{Connection}
 use Rattle.model.specs.Limits.{word_limit}
 use Rattle.model.specs.Judged.{Judged, judgement_of}
 use Rattle.model.specs.Node.{Node}
 use Rattle.model.specs.Term.{words}
 use Rattle.model.specs.Flat.{flat_proof, needed}
-use Rattle.model.specs.declared.Measured.{Measured}
+use Rattle.model.specs.Query.{Measured}
 use Rattle.model.specs.Query.{Tables, proof_words, measure, written_if, answer_to, answer, area_after}
 use Rattle.model.specs.Tables.{connection_words, answer_by, area_of}
 use Rattle.laws.proofs.Judging.{faulty-bad}
@@ -46,8 +49,8 @@ pub cleared : (ws : List ℕ) (area : ℕ) → length ws ≡ area → take 0 ws 
 cleared ws area e = let h : length ws - 0 ≡ area = omega (arith, e) in ap (λ (k : ℕ). replicate {A = ℕ} k 0) h
 
 -- tables that are refused
-module _ (j : Judged Tables) (area l r n : ℕ) (e : Faulty n ≡ judgement_of j) where
-  pub unanswered : Refused n ≡ answer_by j area l r
+module _ (j : Judged Tables) (area l r : ℕ) (n : Refusal) (e : Err n ≡ judgement_of j) where
+  pub unanswered : Err n ≡ answer_by j area l r
   unanswered = rw (faulty-bad j n e) refl
 
   pub unlent : replicate area 0 ≡ area_of j area l r
@@ -55,53 +58,56 @@ module _ (j : Judged Tables) (area l r n : ℕ) (e : Faulty n ≡ judgement_of j
 
 module _ (t : Tables) (area l r : ℕ) where
   -- 8, 9, 10
-  pub not-measured : (n : ℕ) → Unmeasured n ≡ measure t l r → Refused n ≡ answer t area l r
+  pub not-measured : (n : Refusal) → Err n ≡ measure t l r → Err n ≡ answer t area l r
   unfolding answer
   not-measured n e = rw (sym e) refl
 
   -- 11
-  full : (d : ℕ) → Distance d ≡ measure t l r → (ltb area (needed t.nodes t.conns l r) || ltb word_limit (needed t.nodes t.conns l r)) ≡ true →
-      Refused 11 ≡ answer t area l r
+  full : (d : ℕ) → Ok d ≡ measure t l r → (ltb area (needed t.nodes t.conns l r) || ltb word_limit (needed t.nodes t.conns l r)) ≡ true →
+      Err NoRoom ≡ answer t area l r
   unfolding answer
   full d e p = rw (sym e) (rw p refl)
 
-  pub past-limit : (d : ℕ) → Distance d ≡ measure t l r → word_limit < needed t.nodes t.conns l r → Refused 11 ≡ answer t area l r
+  pub past-limit : (d : ℕ) → Ok d ≡ measure t l r → word_limit < needed t.nodes t.conns l r → Err NoRoom ≡ answer t area l r
   past-limit d e h =
       full d e (ap (λ (b : Bool). ltb area (needed t.nodes t.conns l r) || b) (lt-ltb _ _ h) ∙ or-true (ltb area (needed t.nodes t.conns l r)))
 
-  pub past-area : (d : ℕ) → Distance d ≡ measure t l r → area < needed t.nodes t.conns l r → Refused 11 ≡ answer t area l r
+  pub past-area : (d : ℕ) → Ok d ≡ measure t l r → area < needed t.nodes t.conns l r → Err NoRoom ≡ answer t area l r
   past-area d e h = full d e (ap (λ (b : Bool). b || ltb word_limit (needed t.nodes t.conns l r)) (lt-ltb _ _ h))
 
   -- and the answer
-  pub fits : (d w : ℕ) → Distance d ≡ measure t l r → w ≡ needed t.nodes t.conns l r → w ≤ area → w ≤ word_limit →
-      Written d w ≡ answer t area l r
+  pub fits : (d w : ℕ) → Ok d ≡ measure t l r → w ≡ needed t.nodes t.conns l r → w ≤ area → w ≤ word_limit →
+      Ok (written d w) ≡ answer t area l r
   unfolding answer
   fits d w e p a b = rw (sym e) (rw (← p) (rw (le-ltb area w a, le-ltb word_limit w b) refl))
 
   -- what is written fits
-  pub written-fits : (d w : ℕ) → Written d w ≡ answer t area l r → w ≤ area
+  pub written-fits : (w : Written) → Ok w ≡ answer t area l r → w.words ≤ area
   unfolding answer
-  written-fits d w e = by (measure t l r) e
+  written-fits w e = by (measure t l r) e
     where
       need : ℕ
       need = needed t.nodes t.conns l r
 
-      within : (d' : ℕ) (a b : Bool) → ltb area need ≡ a → Written d w ≡ written_if (a || b) d' need → w ≤ area
-      within d' true b p q = let z : ◌≡◌ {A = ℕ} 0 1 = cc in absurd (omega arith)
-      within d' false true p q = let z : ◌≡◌ {A = ℕ} 0 1 = cc in absurd (omega arith)
-      within d' false false p q = let z : w ≡ need = cc in omega (arith, z, ltb-false area need p)
+      within : (d : ℕ) (a b : Bool) → ltb area need ≡ a → Ok w ≡ written_if (a || b) d need → w.words ≤ area
+      within d true b p q = absurd (ok_err q)
+      within d false true p q = absurd (ok_err q)
+      within d false false p q =
+          let z : w.words ≡ need = ap (λ (x : Written). x.words) (same_ok q) in omega (arith, z, ltb-false area need p)
 
-      by : (m : Measured) → Written d w ≡ answer_to m t area l r → w ≤ area
-      by (Unmeasured n) q = let z : ◌≡◌ {A = ℕ} 0 1 = cc in absurd (omega arith)
-      by (Distance d') q = within d' (ltb area need) (ltb word_limit need) refl q
+      by : (m : Measured) → Ok w ≡ answer_to m t area l r → w.words ≤ area
+      by (Err n) q = absurd (ok_err q)
+      by (Ok d) q = within d (ltb area need) (ltb word_limit need) refl q
 
   -- what the area holds then
-  pub area-written : (d w : ℕ) (ws after : List ℕ) → Written d w ≡ answer t area l r → take w ws ≡ proof_words t l r → length ws ≡ area →
-      after ≡ take w ws ++ replicate (length ws - w) 0 → after ≡ area_after t area l r
+  pub area-written : (w : Written) (ws after : List ℕ) → Ok w ≡ answer t area l r → take w.words ws ≡ proof_words t l r → length ws ≡ area →
+      after ≡ take w.words ws ++ replicate (length ws - w.words) 0 → after ≡ area_after t area l r
   unfolding area_after
-  area-written d w ws after e p n q =
-      q ∙ ap (λ (k : ℕ). take w ws ++ replicate (k - w) 0) n ∙ rw (sym e) (ap (λ (x : List ℕ). x ++ replicate (area - w) 0) p)
+  area-written w ws after e p n q =
+      q
+      ∙ ap (λ (k : ℕ). take w.words ws ++ replicate (k - w.words) 0) n
+      ∙ rw (sym e) (ap (λ (x : List ℕ). x ++ replicate (area - w.words) 0) p)
 
-  pub area-refused : (n : ℕ) → Refused n ≡ answer t area l r → replicate area 0 ≡ area_after t area l r
+  pub area-refused : (n : Refusal) → Err n ≡ answer t area l r → replicate area 0 ≡ area_after t area l r
   unfolding area_after
   area-refused n e = rw (sym e) refl

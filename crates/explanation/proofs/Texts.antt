@@ -1,4 +1,4 @@
--- The text of a term: each number exactly where its condition is the first to hold, and what the room then holds.
+-- The text of a term: each refusal exactly where its condition is the first to hold, and what the room then holds.
 -- Assumes nothing.
 use Prim.Native.Nat.{ℕ, ◌-◌, ◌≤◌}
 use native.Mathlib.Omega.{arith}
@@ -10,8 +10,12 @@ use mathlib.Core.Path.{◌≡◌, refl, sym, ap, ap₂, ◌∙◌}
 use borrow.Author.Tests.{ltb-true, ltb-false}
 use lib.Dec.{ltb}
 use lib.ListN.{length, replicate, length-append, length-replicate}
-use Rattle.model.specs.declared.Printed.{Printed}
-use Rattle.model.specs.declared.Printed.TheVariants.{Bytes, NoText}
+use Rattle.std.proofs.Common.{Ok, Err}
+use Rattle.model.specs.declared.Refusal.{Refusal}
+use Rattle.model.specs.Refusal.{number}
+use Rattle.laws.proofs.Handed.{same_err, ok_err}
+use Rattle.model.specs.declared.Refusal.TheVariants.{NoRoom, NoWords, NoTerms}
+use Rattle.model.specs.Text.{Printed}
 use Rattle.model.specs.Term.{Terms, no_terms, tree, one, count, words, read}
 use Rattle.model.specs.Text.{text, printed_if, printed, term_text, room_by, room_after}
 use Rattle.terms.proofs.Read.{read-words, reads-read, reads-once}
@@ -21,10 +25,10 @@ use Rattle.explanation.specs.Demand.{OneTerm, Longer, FirstPrinted}
 module _ (ws : List ℕ) (room : ℕ) where
   -- one of the four cases holds, with its answer
   data Case : Type 0 where
-    empty : ws ≡ [] → term_text ws room ≡ NoText 12 → Case
-    broken : (ws ≡ [] → ⊥) → (OneTerm ws → ⊥) → term_text ws room ≡ NoText 13 → Case
-    long : Longer ws room → term_text ws room ≡ NoText 11 → Case
-    fit : (s : OneTerm ws) → length (text (one s.term)) ≤ room → term_text ws room ≡ Bytes (length (text (one s.term))) → Case
+    empty : ws ≡ [] → term_text ws room ≡ Err NoWords → Case
+    broken : (ws ≡ [] → ⊥) → (OneTerm ws → ⊥) → term_text ws room ≡ Err NoTerms → Case
+    long : Longer ws room → term_text ws room ≡ Err NoRoom → Case
+    fit : (s : OneTerm ws) → length (text (one s.term)) ≤ room → term_text ws room ≡ Ok (length (text (one s.term))) → Case
 
   -- no words are those of no term
   read_none : ws ≡ [] → read ws ≡ some no_terms
@@ -80,58 +84,58 @@ module _ (ws : List ℕ) (room : ℕ) where
   once s s' = ap (λ (f : Terms). length (text f)) (reads-once ws (one s.term) (one s'.term) s.reads s'.reads)
 
   -- the number that a case gives, and 0 for none
-  abbrev number : Case → ℕ
-  number (empty z e) = 12
-  number (broken n b e) = 13
-  number (long l e) = 11
-  number (fit s l e) = 0
+  abbrev refused : Case → ℕ
+  refused (empty z e) = 12
+  refused (broken n b e) = 13
+  refused (long l e) = 11
+  refused (fit s l e) = 0
 
-  tells : (n : ℕ) → term_text ws room ≡ NoText n → (c : Case) → number c ≡ n
-  tells n h (empty z e) = cc
-  tells n h (broken a b e) = cc
-  tells n h (long l e) = cc
-  tells n h (fit s l e) = cc
+  tells : (r : Refusal) → term_text ws room ≡ Err r → (c : Case) → refused c ≡ number r
+  tells r h (empty z e) = ap number (same_err (sym e ∙ h))
+  tells r h (broken a b e) = ap number (same_err (sym e ∙ h))
+  tells r h (long l e) = ap number (same_err (sym e ∙ h))
+  tells r h (fit s l e) = absurd (ok_err (sym e ∙ h))
 
-  is-12 : (term_text ws room ≡ NoText 12) ↔ (ws ≡ [])
-  is-12 = (λ e. pick case-of (tells 12 e case-of), λ z. put z case-of)
+  is-12 : (term_text ws room ≡ Err NoWords) ↔ (ws ≡ [])
+  is-12 = (λ e. pick case-of (tells NoWords e case-of), λ z. put z case-of)
     where
-      pick : (c : Case) → number c ≡ 12 → ws ≡ []
+      pick : (c : Case) → refused c ≡ 12 → ws ≡ []
       pick (empty z e) h = z
       pick (broken a b e) h = absurd (omega arith)
       pick (long l e) h = absurd (omega arith)
       pick (fit s l e) h = absurd (omega arith)
 
-      put : ws ≡ [] → Case → term_text ws room ≡ NoText 12
+      put : ws ≡ [] → Case → term_text ws room ≡ Err NoWords
       put z (empty y e) = e
       put z (broken a b e) = absurd (a z)
       put z (long l e) = absurd (full l.says z)
       put z (fit s l e) = absurd (full s z)
 
-  is-13 : (term_text ws room ≡ NoText 13) ↔ ((ws ≡ [] → ⊥) × (OneTerm ws → ⊥))
-  is-13 = (λ e. pick case-of (tells 13 e case-of), λ h. put h.0 h.1 case-of)
+  is-13 : (term_text ws room ≡ Err NoTerms) ↔ ((ws ≡ [] → ⊥) × (OneTerm ws → ⊥))
+  is-13 = (λ e. pick case-of (tells NoTerms e case-of), λ h. put h.0 h.1 case-of)
     where
-      pick : (c : Case) → number c ≡ 13 → (ws ≡ [] → ⊥) × (OneTerm ws → ⊥)
+      pick : (c : Case) → refused c ≡ 13 → (ws ≡ [] → ⊥) × (OneTerm ws → ⊥)
       pick (empty z e) h = absurd (omega arith)
       pick (broken a b e) h = (a, b)
       pick (long l e) h = absurd (omega arith)
       pick (fit s l e) h = absurd (omega arith)
 
-      put : (ws ≡ [] → ⊥) → (OneTerm ws → ⊥) → Case → term_text ws room ≡ NoText 13
+      put : (ws ≡ [] → ⊥) → (OneTerm ws → ⊥) → Case → term_text ws room ≡ Err NoTerms
       put n m (empty z e) = absurd (n z)
       put n m (broken a b e) = e
       put n m (long l e) = absurd (m l.says)
       put n m (fit s l e) = absurd (m s)
 
-  is-11 : (term_text ws room ≡ NoText 11) ↔ Longer ws room
-  is-11 = (λ e. pick case-of (tells 11 e case-of), λ l. put l case-of)
+  is-11 : (term_text ws room ≡ Err NoRoom) ↔ Longer ws room
+  is-11 = (λ e. pick case-of (tells NoRoom e case-of), λ l. put l case-of)
     where
-      pick : (c : Case) → number c ≡ 11 → Longer ws room
+      pick : (c : Case) → refused c ≡ 11 → Longer ws room
       pick (empty z e) h = absurd (omega arith)
       pick (broken a b e) h = absurd (omega arith)
       pick (long l e) h = l
       pick (fit s l e) h = absurd (omega arith)
 
-      put : Longer ws room → Case → term_text ws room ≡ NoText 11
+      put : Longer ws room → Case → term_text ws room ≡ Err NoRoom
       put l (empty z e) = absurd (full l.says z)
       put l (broken a b e) = absurd (b l.says)
       put l (long k e) = e
@@ -139,11 +143,11 @@ module _ (ws : List ℕ) (room : ℕ) where
 
   -- a text that fits
   module _ (s : OneTerm ws) (l : length (text (one s.term)) ≤ room) where
-    fits : Case → term_text ws room ≡ Bytes (length (text (one s.term)))
+    fits : Case → term_text ws room ≡ Ok (length (text (one s.term)))
     fits (empty z e) = absurd (full s z)
     fits (broken a b e) = absurd (b s)
     fits (long k e) = absurd (omega (arith, once s k.says, k.exceeds))
-    fits (fit r k e) = e ∙ ap Bytes (once r s)
+    fits (fit r k e) = e ∙ ap Ok (once r s)
 
     lent : room_after ws room ≡ text (one s.term) ++ replicate (room - length (text (one s.term))) 0
     unfolding room_after
@@ -156,13 +160,13 @@ module _ (ws : List ℕ) (room : ℕ) where
         ap length lent
         ∙ omega (arith, length-append (text (one s.term)) (replicate (room - n) 0), length-replicate {A = ℕ} (room - n) 0, l)
 
-  zeros : (n : ℕ) → term_text ws room ≡ NoText n → room_after ws room ≡ replicate room 0
-  zeros n e = sym (room-refused ws room n (sym e))
+  zeros : (r : Refusal) → term_text ws room ≡ Err r → room_after ws room ≡ replicate room 0
+  zeros r e = sym (room-refused ws room r (sym e))
 
   kept : Case → length (room_after ws room) ≡ room
-  kept (empty z e) = ap length (zeros 12 e) ∙ length-replicate {A = ℕ} room 0
-  kept (broken a b e) = ap length (zeros 13 e) ∙ length-replicate {A = ℕ} room 0
-  kept (long l e) = ap length (zeros 11 e) ∙ length-replicate {A = ℕ} room 0
+  kept (empty z e) = ap length (zeros NoWords e) ∙ length-replicate {A = ℕ} room 0
+  kept (broken a b e) = ap length (zeros NoTerms e) ∙ length-replicate {A = ℕ} room 0
+  kept (long l e) = ap length (zeros NoRoom e) ∙ length-replicate {A = ℕ} room 0
   kept (fit s l e) = lent_length s l
 
   pub first-printed : FirstPrinted ws room (term_text ws room) (room_after ws room)

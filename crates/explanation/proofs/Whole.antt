@@ -5,10 +5,10 @@ use mathlib.Core.List.{List}
 use mathlib.Core.Path.{◌≡◌, refl, sym, ◌∙◌, ap, subst}
 use native.Mathlib.Omega.{arith}
 use lib.ListN.{length}
+use Rattle.std.proofs.Common.{Ok, Err}
+use Rattle.model.specs.Verdict.{rejection}
+use Rattle.model.specs.declared.Refusal.{Refusal}
 use Rattle.model.specs.declared.Connection.{Connection}
-use Rattle.model.specs.declared.Judgement.TheVariants.{Taken, Faulty}
-use Rattle.model.specs.declared.Measured.TheVariants.{Unmeasured}
-use Rattle.model.specs.declared.Verdict.TheVariants.{Rejected}
 use Rattle.model.specs.Judged.{Judged, good, bad, judgement_of}
 use Rattle.model.specs.Rule.{Rule}
 use Rattle.model.specs.Node.{Node}
@@ -24,11 +24,11 @@ use Rattle.forest.specs.Rows.{connections_of}
 
 -- a table that is refused
 module _ (nws rws cws : List ℕ) where
-  pub bad-nodes : (n : ℕ) → Faulty n ≡ judgement_of (node_table nws) → judge_tables nws rws cws ≡ bad n
+  pub bad-nodes : (n : Refusal) → Err n ≡ judgement_of (node_table nws) → judge_tables nws rws cws ≡ bad n
   unfolding judge_tables
   bad-nodes n e = rw (faulty-bad (node_table nws) n e)
 
-  pub bad-rules : NodesWhole nws → (n : ℕ) → Faulty n ≡ judgement_of (rule_table rws) → judge_tables nws rws cws ≡ bad n
+  pub bad-rules : NodesWhole nws → (n : Refusal) → Err n ≡ judgement_of (rule_table rws) → judge_tables nws rws cws ≡ bad n
   unfolding judge_tables
   bad-rules a n e = rw (a.is, faulty-bad (rule_table rws) n e)
 
@@ -37,7 +37,7 @@ last : (ns : List Node) (rs : List Rule) (j : Judged (List Connection)) → judg
 last ns rs (good cs) = refl
 last ns rs (bad n) = refl
 
-pub connections-decide : (nws rws cws : List ℕ) → NodesWhole nws → Taken ≡ judgement_of (rule_table rws)
+pub connections-decide : (nws rws cws : List ℕ) → NodesWhole nws → Ok tt ≡ judgement_of (rule_table rws)
     → judgement_of (connection_table (nodes_of nws) cws) ≡ judgement_of (judge_tables nws rws cws)
 unfolding judge_tables
 connections-decide nws rws cws a b =
@@ -91,8 +91,8 @@ whole nws rws cws t e =
     }
 
 -- answers over tables that are refused
-pub refused : (j : Judged Tables) (ws : List ℕ) (n : ℕ) → Faulty n ≡ judgement_of j → Rejected n 0 ≡ verdict_by j ws
+pub refused : (j : Judged Tables) (ws : List ℕ) (n : Refusal) → Err n ≡ judgement_of j → Err (rejection n 0) ≡ verdict_by j ws
 refused j ws n e = sym (ap (λ (x : Judged Tables). verdict_by x ws) (faulty-bad j n e))
 
-pub unmeasured : (j : Judged Tables) (l r n : ℕ) → Faulty n ≡ judgement_of j → Unmeasured n ≡ measure_by j l r
+pub unmeasured : (j : Judged Tables) (l r : ℕ) (n : Refusal) → Err n ≡ judgement_of j → Err n ≡ measure_by j l r
 unmeasured j l r n e = sym (ap (λ (x : Judged Tables). measure_by x l r) (faulty-bad j n e))

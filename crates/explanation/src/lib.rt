@@ -4,43 +4,38 @@
 
 ghost use Rattle.std.specs.Prelude.{◌≡◌, ◌/◌, length};
 ghost use Rattle.model.specs.Judged.{judgement_of};
-ghost use Rattle.model.specs.declared.Measured.TheVariants.{Distance};
+ghost use Rattle.model.specs.Limits.{node_limit};
 ghost use Rattle.model.specs.Tables.{node_words, connection_words, judge_tables, measure_by, answer_by, area_of, verdict_by};
 ghost use Rattle.entries.specs.Connections.{Supported};
 ghost use Rattle.entries.specs.Nodes.{NodesWhole};
-ghost use Rattle.forest.specs.Rows.{table_words};
 ghost use Rattle.explanation.specs.Measure.{Measures, Ways, Routed};
 ghost use Rattle.explanation.specs.Query.{Answers, Responds};
 
-use forest::TABLE_WORDS;
+use forest::{NO_ROW, Row};
 use model::{
-    Answer, DISTANCE_LIMIT, Judgement, Measured, NODE_LIMIT, NODE_WORDS, NodeNo, Verdict,
-    WORD_LIMIT, wide,
+    Answer, DISTANCE_LIMIT, Judgement, Measured, NODE_LIMIT, NODE_WORDS, NodeNo, Refusal,
+    Rejection, Verdict, WORD_LIMIT, Written,
 };
+use needs::Lent;
 use trees::clear_from;
 
 // Tables handed in whole are judged before all else: nodes, rules, connections; the first bad entry decides.
 fn judge_tables(nodes: &[u16], rules: &[u16], connections: &[u16]) -> Judgement
     ensures { result ≡ judgement_of (judge_tables nodes.now rules.now connections.now) }
 {
-    let a = nodes::judge_nodes(nodes);
-    if let Judgement::Faulty(number) = a {
-        return Judgement::Faulty(number);
-    }
-    let b = rule_table::judge_rules(rules);
-    if let Judgement::Faulty(number) = b {
-        return Judgement::Faulty(number);
-    }
+    nodes::judge_nodes(nodes)?;
+    rule_table::judge_rules(rules)?;
     connections::judge_connections(nodes, connections)
 }
 
-// The strict checker over tables handed in whole and any words: how many terms were accepted, or the refusal and its place.
+// The strict checker over tables handed in whole and any words: how many terms were accepted, or the refusal and its place, which is
+// 0 over bad tables.
 pub fn check(nodes: &[u16], rules: &[u16], connections: &[u16], words: &[u16]) -> Verdict
     ensures { result ≡ verdict_by (judge_tables nodes.now rules.now connections.now) words.now }
 {
-    let judged = judge_tables(nodes, rules, connections);
-    if let Judgement::Faulty(number) = judged {
-        return Verdict::Rejected(number, 0);
+    // In words, and not by `?`: the edit bad_tables_place turns the place.
+    if let Err(refusal) = judge_tables(nodes, rules, connections) {
+        return Err(Rejection { refusal, place: 0 });
     }
     checker::check(rules, words)
 }
@@ -51,29 +46,29 @@ fn measure(
     connections: &[u16],
     left: NodeNo,
     right: NodeNo,
-    rows: &mut [u16; TABLE_WORDS],
+    rows: &mut [Row; NODE_LIMIT],
 ) -> Measured
     requires supported { Supported nodes.now (length nodes.now / node_words) connections.now (length connections.now / connection_words) }
-    requires rows_len { length rows.old ≡ table_words }
+    requires rows_len { length rows.old ≡ node_limit }
     ensures measures { Measures nodes.now connections.now left.0 right.0 result }
     ensures routed { Routed nodes.now connections.now left.0 right.0 result rows.new }
 {
     let n = nodes.len() / NODE_WORDS;
-    if n <= wide(left.0) {
-        return Measured::Unmeasured(8);
+    if n <= usize::from(left.0) {
+        return Err(Refusal::NoNode);
     }
-    if n <= wide(right.0) {
-        return Measured::Unmeasured(8);
+    if n <= usize::from(right.0) {
+        return Err(Refusal::NoNode);
     }
     forest::fill_rows(connections, n, rows);
     if !forest::joined(rows, left, right) {
-        return Measured::Unmeasured(9);
+        return Err(Refusal::NotJoined);
     }
     let d = costs::distance(nodes, connections, rows, left, right);
     if d > DISTANCE_LIMIT {
-        return Measured::Unmeasured(10);
+        return Err(Refusal::TooFar);
     }
-    Measured::Distance(d)
+    Ok(d)
 }
 
 // The distance of two nodes over tables handed in whole.
@@ -86,11 +81,8 @@ pub fn distance(
 ) -> Measured
     ensures { result ≡ measure_by (judge_tables nodes.now rules.now connections.now) left.0 right.0 }
 {
-    let judged = judge_tables(nodes, rules, connections);
-    if let Judgement::Faulty(number) = judged {
-        return Measured::Unmeasured(number);
-    }
-    let mut rows = [0u16; TABLE_WORDS];
+    judge_tables(nodes, rules, connections)?;
+    let mut rows = [NO_ROW; NODE_LIMIT];
     measure(nodes, connections, left, right, &mut rows)
 }
 
@@ -98,27 +90,33 @@ pub fn distance(
 fn write_answer(
     nodes: &[u16],
     connections: &[u16],
-    rows: &[u16; TABLE_WORDS],
+    rows: &[Row; NODE_LIMIT],
     distance: usize,
     left: NodeNo,
     right: NodeNo,
     area: &mut [u16],
 ) -> Answer
     requires nodes_whole { NodesWhole nodes.now × Supported nodes.now (length nodes.now / node_words) connections.now (length connections.now / connection_words) }
-    requires measures { Measures nodes.now connections.now left.0 right.0 (Distance distance) × Ways nodes.now connections.now left.0 right.0 rows.now }
+    requires measures { Measures nodes.now connections.now left.0 right.0 (Ok distance) × Ways nodes.now connections.now left.0 right.0 rows.now }
     ensures { Answers nodes.now connections.now area.old left.0 right.0 result area.new }
 {
-    let mut size = [0u32; NODE_LIMIT];
-    trees::fill_sizes(nodes, &mut size);
-    let w = needs::words_needed(nodes, connections, rows, &size, left, right);
-    if w > WORD_LIMIT {
-        return Answer::Refused(11);
+    let mut sizes = [0u32; NODE_LIMIT];
+    trees::fill_sizes(nodes, &mut sizes);
+    let lent = Lent {
+        nodes,
+        conns: connections,
+        rows,
+        sizes: &sizes,
+    };
+    let words = needs::words_needed(lent, left, right);
+    if words > WORD_LIMIT {
+        return Err(Refusal::NoRoom);
     }
-    if w > area.len() {
-        return Answer::Refused(11);
+    if words > area.len() {
+        return Err(Refusal::NoRoom);
     }
-    writer::write_proof(nodes, connections, rows, &size, &mut area[..w], left, right);
-    Answer::Written(distance, w)
+    writer::write_proof(lent, &mut area[..words], left, right);
+    Ok(Written { distance, words })
 }
 
 // A query over accepted tables: 8, 9, 10, 11, or the distance and the words written, the proof then in front of the area.
@@ -132,12 +130,9 @@ fn answer(
     requires { NodesWhole nodes.now × Supported nodes.now (length nodes.now / node_words) connections.now (length connections.now / connection_words) }
     ensures { Answers nodes.now connections.now area.old left.0 right.0 result area.new }
 {
-    let mut rows = [0u16; TABLE_WORDS];
-    let measured = measure(nodes, connections, left, right, &mut rows);
-    match measured {
-        Measured::Unmeasured(number) => Answer::Refused(number),
-        Measured::Distance(d) => write_answer(nodes, connections, &rows, d, left, right, area),
-    }
+    let mut rows = [NO_ROW; NODE_LIMIT];
+    let d = measure(nodes, connections, left, right, &mut rows)?;
+    write_answer(nodes, connections, &rows, d, left, right, area)
 }
 
 // The same, and the area zero behind what was written; after a refusal all of it is, whatever it held.
@@ -151,17 +146,12 @@ pub fn respond(
     requires { NodesWhole nodes.now × Supported nodes.now (length nodes.now / node_words) connections.now (length connections.now / connection_words) }
     ensures { Responds nodes.now connections.now (length area.old) left.0 right.0 result area.new }
 {
-    let a = answer(nodes, connections, left, right, area);
-    match a {
-        Answer::Written(d, w) => {
-            clear_from(area, w);
-            Answer::Written(d, w)
-        }
-        Answer::Refused(number) => {
-            clear_from(area, 0);
-            Answer::Refused(number)
-        }
+    let answer = answer(nodes, connections, left, right, area);
+    match answer {
+        Ok(written) => clear_from(area, written.words),
+        Err(_) => clear_from(area, 0),
     }
+    answer
 }
 
 // A query over tables handed in whole: the distance and the words written, or the refusal.
@@ -176,10 +166,9 @@ pub fn query(
     ensures value { result ≡ answer_by (judge_tables nodes.now rules.now connections.now) (length area.old) left.0 right.0 }
     ensures area_after { area.new ≡ area_of (judge_tables nodes.now rules.now connections.now) (length area.old) left.0 right.0 }
 {
-    let judged = judge_tables(nodes, rules, connections);
-    if let Judgement::Faulty(number) = judged {
+    if let Err(refusal) = judge_tables(nodes, rules, connections) {
         clear_from(area, 0);
-        return Answer::Refused(number);
+        return Err(refusal);
     }
     respond(nodes, connections, left, right, area)
 }

@@ -7,7 +7,7 @@ ghost use Rattle.model.specs.Tables.{judge_tables, measure_by, answer_by, area_o
 ghost use Rattle.model.specs.Text.{text_report, term_text, room_after};
 ghost use Rattle.model.specs.Verdict.{report_of};
 
-use model::{Answer, Measured, NodeNo, Printed, Verdict};
+use model::NodeNo;
 
 // The checker for C: the number is returned (0 for success), the count of terms or the place stands behind `value`.
 #[unsafe(no_mangle)]
@@ -21,15 +21,14 @@ pub extern "C" fn erbighenti_check(
     ensures value { result ≡ (report_of (verdict_by (judge_tables nodes.now rules.now connections.now) words.now)).number }
     ensures value_after { value.new ≡ (report_of (verdict_by (judge_tables nodes.now rules.now connections.now) words.now)).value }
 {
-    let verdict = explanation::check(nodes, rules, connections, words);
-    match verdict {
-        Verdict::Accepted(terms) => {
+    match explanation::check(nodes, rules, connections, words) {
+        Ok(terms) => {
             *value = terms as u64;
             0
         }
-        Verdict::Rejected(number, place) => {
-            *value = place as u64;
-            number
+        Err(rejection) => {
+            *value = rejection.place as u64;
+            u16::from(rejection.refusal)
         }
     }
 }
@@ -47,15 +46,14 @@ pub extern "C" fn erbighenti_distance(
     ensures value { result ≡ (measure_report (measure_by (judge_tables nodes.now rules.now connections.now) left right)).number }
     ensures value_after { value.new ≡ (measure_report (measure_by (judge_tables nodes.now rules.now connections.now) left right)).distance }
 {
-    let measured = explanation::distance(nodes, rules, connections, NodeNo(left), NodeNo(right));
-    match measured {
-        Measured::Distance(d) => {
+    match explanation::distance(nodes, rules, connections, NodeNo(left), NodeNo(right)) {
+        Ok(d) => {
             *value = d as u64;
             0
         }
-        Measured::Unmeasured(number) => {
+        Err(refusal) => {
             *value = 0;
-            number
+            u16::from(refusal)
         }
     }
 }
@@ -77,17 +75,16 @@ pub extern "C" fn erbighenti_query(
     ensures written_after { written.new ≡ (answer_report (answer_by (judge_tables nodes.now rules.now connections.now) (length area.old) left right)).written }
     ensures area_after { area.new ≡ area_of (judge_tables nodes.now rules.now connections.now) (length area.old) left right }
 {
-    let answer = explanation::query(nodes, rules, connections, NodeNo(left), NodeNo(right), area);
-    match answer {
-        Answer::Written(d, w) => {
-            *distance = d as u64;
-            *written = w as u64;
+    match explanation::query(nodes, rules, connections, NodeNo(left), NodeNo(right), area) {
+        Ok(answer) => {
+            *distance = answer.distance as u64;
+            *written = answer.words as u64;
             0
         }
-        Answer::Refused(number) => {
+        Err(refusal) => {
             *distance = 0;
             *written = 0;
-            number
+            u16::from(refusal)
         }
     }
 }
@@ -99,15 +96,14 @@ pub extern "C" fn erbighenti_term_text(words: &[u16], room: &mut [u8], written: 
     ensures written_after { written.new ≡ (text_report (term_text words.now (length room.old))).written }
     ensures room_after { room.new ≡ room_after words.now (length room.old) }
 {
-    let printed = text::term_text(words, room);
-    match printed {
-        Printed::Bytes(n) => {
+    match text::term_text(words, room) {
+        Ok(n) => {
             *written = n as u64;
             0
         }
-        Printed::NoText(number) => {
+        Err(refusal) => {
             *written = 0;
-            number
+            u16::from(refusal)
         }
     }
 }

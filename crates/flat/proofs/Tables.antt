@@ -8,7 +8,9 @@ use native.Mathlib.Omega.{arith}
 use borrow.Author.Tests.{leb-true, not-false}
 use lib.Dec.{leb}
 use lib.ListN.{length, get_or}
+use Rattle.model.specs.declared.Refusal.TheVariants.{ChildNotBelow, EndsUnfit, NoSupport, TableFull}
 use Rattle.model.specs.declared.Connection.{Connection}
+use Rattle.model.specs.declared.Refusal.TheVariants.{TableFull, ChildNotBelow, EndsUnfit, NoSupport}
 use Rattle.model.specs.Limits.{node_limit, child_limit}
 use Rattle.model.specs.Judged.{Judged, good, bad}
 use Rattle.model.specs.Node.{Node, no_node, all_below, add_node}
@@ -39,8 +41,8 @@ pub nodes-more : (ns ns' : List Node) (x : Node) → length x.kids ≤ child_lim
     add_node ns (some x) ≡ good ns' → AcceptedNodes ns'
 unfolding add_node
 nodes-more ns ns' x c a p =
-    let q = taken (leb node_limit (length ns)) 3 _ _ p in
-    let s = taken (not (all_below (length ns) x.kids)) 4 _ _ q.1 in
+    let q = taken (leb node_limit (length ns)) TableFull _ _ p in
+    let s = taken (not (all_below (length ns) x.kids)) ChildNotBelow _ _ q.1 in
     let e : ns ++ (x ∷ []) ≡ ns' = cc in
     subst AcceptedNodes e
     (record {
@@ -83,8 +85,8 @@ pub connections-more : (ns : List Node) (cs cs' : List Connection) (c : Connecti
     add_connection ns cs (some c) ≡ good cs' → c ∷ cs ≡ cs'
 unfolding add_connection
 connections-more ns cs cs' c p =
-    let q = taken (misplaced ns cs c) 6 _ _ p in
-    let s = taken (not (supported ns cs c.why (cur c) (nxt c))) 7 _ _ q.1 in cc
+    let q = taken (misplaced ns cs c) EndsUnfit _ _ p in
+    let s = taken (not (supported ns cs c.why (cur c) (nxt c))) NoSupport _ _ q.1 in cc
 
 pub table-connections : (ns : List Node) (ws : List ℕ) (cs : List Connection) → connection_table ns ws ≡ good cs → AcceptedConnections ns cs
 unfolding connection_table add_connection

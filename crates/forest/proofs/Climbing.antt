@@ -1,11 +1,12 @@
 -- One step of a climb by the rows: where it leads, and how deep that is.
-use Prim.Native.Nat.{ℕ, zero, suc, ◌+◌, ◌-◌, ◌*◌, ◌<◌, ◌≤◌}
+use Prim.Native.Nat.{ℕ, zero, suc, ◌+◌, ◌-◌, ◌<◌, ◌≤◌}
 use mathlib.Core.List.{List, [], ◌∷◌}
 use mathlib.Core.Logic.{◌⊎◌, inr, ⊎_elim}
 use mathlib.Core.Path.{◌∙◌, ◌≡◌, ap, refl, sym}
 use native.Mathlib.Decide.{ℕ_discrete}
 use native.Mathlib.Omega.{arith}
 use lib.ListN.{set}
+use Rattle.forest.specs.declared.Row.{Row}
 use Rattle.model.specs.Forest.{below, cur, parent_of}
 use Rattle.model.specs.Limits.{node_limit}
 use Rattle.model.specs.declared.Connection.{Connection}
@@ -16,9 +17,9 @@ use Rattle.paths.proofs.Places.{high, low, place}
 use Rattle.paths.proofs.Ways.{next-high}
 use Rattle.paths.specs.Hangs.{Forest, Within, depth, next_of}
 use Rattle.paths.specs.Meet.{meet_of}
-use Rattle.paths.specs.declared.Meeting.TheVariants.{Nowhere}
+use Rattle.std.specs.Prelude.{None}
 use Rattle.entries.specs.Connections.{connection_in, oldest}
-use Rattle.forest.specs.Rows.{Climbs, Rooted, age_in, age_of, depth_in, depth_word, next_in, row_words}
+use Rattle.forest.specs.Rows.{Climbs, Rooted, age_in, age_of, depth_in, next_in, row_in, with_depth}
 use Rattle.forest.specs.Filling.{DepthsKnown, Settled, Sounded, Tied}
 use Rattle.forest.proofs.Ages.{age-old, age-top}
 use Rattle.forest.proofs.Filled.{depth-here, right-depth, still-known, tied-depth}
@@ -72,15 +73,15 @@ pub record Sought (cs : List Connection) (n m at steps : ℕ) : Type 0 where
   pub total : steps + depth cs at ≡ depth cs m
 
 -- the climb that writes depths
-pub record Settling (cs : List Connection) (n : ℕ) (old before rows : List ℕ) (m at d : ℕ) : Type 0 where
+pub record Settling (cs : List Connection) (n : ℕ) (old before rows : List Row) (m at d : ℕ) : Type 0 where
   pub sounded : Sounded cs n old rows
   pub inside : at < n
   pub here : depth_in rows at ≡ 0 → d ≡ suc (depth cs at)
   pub found : (at ≡ m) ⊎ (0 < depth_in rows m)
   pub kept : (a : ℕ) → 0 < depth_in before a → 0 < depth_in rows a
 
-module _ {cs : List Connection} {n : ℕ} {old before rows : List ℕ} {m at d : ℕ} (s : Settling cs n old before rows m at d) where
-  pub settle-next : (new : List ℕ) (up : ℕ) → depth_in rows at ≡ 0 → new ≡ set rows (at * row_words + depth_word) d → up ≡ next_in new at →
+module _ {cs : List Connection} {n : ℕ} {old before rows : List Row} {m at d : ℕ} (s : Settling cs n old before rows m at d) where
+  pub settle-next : (new : List Row) (up : ℕ) → depth_in rows at ≡ 0 → new ≡ set rows at (with_depth d (row_in rows at)) → up ≡ next_in new at →
       Settling cs n old before new m up (d - 1)
   settle-next new up z e u =
       let t = s.sounded.tied in
@@ -117,7 +118,7 @@ module _ {cs : List Connection} {n : ℕ} {old before rows : List ℕ} {m at d :
       }
 
 -- one node after the other
-pub resounded : {cs : List Connection} {n : ℕ} {old rows : List ℕ} → Sounded cs n old rows → Sounded cs n rows rows
+pub resounded : {cs : List Connection} {n : ℕ} {old rows : List Row} → Sounded cs n old rows → Sounded cs n rows rows
 resounded s =
     let t = s.tied in
     record {
@@ -126,7 +127,7 @@ resounded s =
       right = s.right;
     }
 
-pub known_more : {cs : List Connection} {n : ℕ} {old before rows : List ℕ} {i : ℕ} → DepthsKnown i before → Settled cs n old before rows i →
+pub known_more : {cs : List Connection} {n : ℕ} {old before rows : List Row} {i : ℕ} → DepthsKnown i before → Settled cs n old before rows i →
     DepthsKnown (i + 1) rows
 known_more {i = i} k s = λ a h. elim (ℕ_discrete a i) [ yes q ↦ rw q s.here | no q ↦ s.kept a (k a (omega arith)) ]
 
@@ -136,7 +137,7 @@ pub record Nearing (cs : List Connection) (n l₀ r₀ l r : ℕ) : Type 0 where
   pub right-in : r < n
   pub same : meet_of cs l r ≡ meet_of cs l₀ r₀
 
-module _ {cs : List Connection} {n : ℕ} {rows : List ℕ} {l₀ r₀ l r : ℕ} (k : Climbs cs n rows) (w : Nearing cs n l₀ r₀ l r) (e : l ≡ r → ⊥) where
+module _ {cs : List Connection} {n : ℕ} {rows : List Row} {l₀ r₀ l r : ℕ} (k : Climbs cs n rows) (w : Nearing cs n l₀ r₀ l r) (e : l ≡ r → ⊥) where
   abbrev f : Forest cs
   f = k.rooted.forest
 
@@ -183,7 +184,7 @@ module _ {cs : List Connection} {n : ℕ} {rows : List ℕ} {l₀ r₀ l r : ℕ
       let t = next-depth k.rooted l w.left_in (λ q. z (k.age l w.left_in ∙ q)) in
       rw v (omega (arith, left-depth, k.deep (next_of cs l) i))
 
-  pub meets-nowhere : depth_in rows r ≤ depth_in rows l → age_in rows l ≡ 0 → Nowhere ≡ meet_of cs l₀ r₀
+  pub meets-nowhere : depth_in rows r ≤ depth_in rows l → age_in rows l ≡ 0 → None ≡ meet_of cs l₀ r₀
   meets-nowhere h z =
       let t = top-depth k.rooted l w.left_in (sym (k.age l w.left_in) ∙ z) in
       sym (meet-nowhere cs l r f e t (omega (arith, left-depth, right-depth'))) ∙ w.same

@@ -1,4 +1,5 @@
 pub mod Ages
+pub mod Ends
 pub mod Older
 pub mod Filled
 pub mod Climbing

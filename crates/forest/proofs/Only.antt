@@ -4,7 +4,7 @@ use mathlib.Core.Bool.{Bool}
 use mathlib.Core.Path.{◌≡◌, sym, ap, ◌∙◌}
 use contract.Lifetimes.{Lfts}
 use Rattle.model.specs.declared.NodeNo.{NodeNo}
-use Rattle.paths.specs.declared.Meeting.{Meeting}
+use Rattle.std.specs.Prelude.{Option}
 use Rattle.forest.proofs.next_of.Reads as next_of
 use Rattle.forest.proofs.age_of.Reads as age-of
 use Rattle.forest.proofs.cost_of.Reads as cost-of
@@ -29,7 +29,7 @@ fill-rows-only : (κs : Lfts 2) (a s s' r r' : _) → fill-rows.Post κs a r s �
 fill-rows-only κs a s s' r r' p q = p ∙ sym q
 
 -- whichever connections the rows stand for
-meet-only : (κs : Lfts 1) (a s s' : _) (r r' : Meeting) → meet.Pre κs a → meet.Post κs a r s → meet.Post κs a r' s' → r ≡ r'
+meet-only : (κs : Lfts 1) (a s s' : _) (r r' : Option NodeNo) → meet.Pre κs a → meet.Post κs a r s → meet.Post κs a r' s' → r ≡ r'
 meet-only κs a s s' r r' w p q =
     p w.conns w.nodes w.climbs w.left_in w.right-in ∙ sym (q w.conns w.nodes w.climbs w.left_in w.right-in)
 

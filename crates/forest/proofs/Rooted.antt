@@ -1,9 +1,9 @@
 -- Accepted connections can be climbed, and the rows that are filled from them stand for them, with no cost.
-use Prim.Native.Nat.{ℕ, ◌*◌, ◌+◌, ◌<◌, ◌≤◌}
+use Prim.Native.Nat.{ℕ, ◌<◌, ◌≤◌}
 use mathlib.Core.List.{List, [], ◌++◌, ◌∷◌}
-use mathlib.Core.Path.{◌∙◌, ◌≡◌}
+use mathlib.Core.Path.{◌∙◌, ◌≡◌, ap}
 use native.Mathlib.Omega.{arith}
-use lib.ListN.{get_or-append, drop, get_or, length, length-append, length-drop}
+use lib.ListN.{get_or-append, drop, length, length-append, length-drop}
 use Rattle.model.specs.Limits.{node_limit}
 use Rattle.model.specs.declared.Connection.{Connection}
 use Rattle.paths.proofs.Accept.{accepted-forest, accepted-within}
@@ -12,8 +12,9 @@ use Rattle.paths.specs.Hangs.{Within}
 use Rattle.entries.proofs.Nodes.{length-nodes}
 use Rattle.entries.specs.Connections.{Supported, oldest}
 use Rattle.entries.specs.Nodes.{first_nodes}
-use Rattle.forest.specs.Rows.{Climbs, Rooted, age_word, cost_in, cost_word, depth_word, next_word, row_of, row_words, rows_of, table_words}
-use Rattle.forest.proofs.Filled.{length-rows, row_word}
+use Rattle.forest.specs.Rows.{Climbs, Rooted, cost_in, no_row, row_in, row_of, rows_of}
+use Rattle.forest.specs.declared.Row.{Row}
+use Rattle.forest.proofs.Filled.{age_part, cost_part, depth_part, length-rows, next_part, row-at}
 
 widen : (n m : ℕ) (cs : List Connection) → n ≤ m → Within n cs → Within m cs
 widen n m [] h w = tt
@@ -31,23 +32,22 @@ rooted {nodes} {n} {conns} {count} s =
       forest = f;
     }
 
-module _ {cs : List Connection} {n : ℕ} (r : Rooted n cs) (old : List ℕ) (size : length old ≡ table_words) where
-  abbrev full : List ℕ
-  full = rows_of cs n ++ drop (n * row_words) old
+module _ {cs : List Connection} {n : ℕ} (r : Rooted n cs) (old : List Row) (size : length old ≡ node_limit) where
+  abbrev full : List Row
+  full = rows_of cs n ++ drop n old
 
-  word : (a j : ℕ) → a < n → j < row_words → get_or full (a * row_words + j) 0 ≡ get_or (row_of cs a) j 0
-  word a j p q =
-      get_or-append (rows_of cs n) (drop (n * row_words) old) 0 (a * row_words + j) (omega (arith, length-rows cs n)) ∙ row_word cs n a j p q
+  row : (a : ℕ) → a < n → row_in full a ≡ row_of cs a
+  row a p = get_or-append (rows_of cs n) (drop n old) no_row a (omega (arith, length-rows cs n)) ∙ row-at cs n a p
 
   pub full-climbs : Climbs cs n full
   full-climbs =
       record {
         rooted = r;
         size = rw (length-append, length-rows cs n, length-drop, size) (omega (arith, r.few));
-        next = λ a p. word a next_word p (omega arith);
-        age = λ a p. word a age_word p (omega arith);
-        deep = λ a p. word a depth_word p (omega arith);
+        next = λ a p. ap next_part (row a p);
+        age = λ a p. ap age_part (row a p);
+        deep = λ a p. ap depth_part (row a p);
       }
 
   pub full-free : (a : ℕ) → a < n → cost_in full a ≡ 0
-  full-free a p = word a cost_word p (omega arith)
+  full-free a p = ap cost_part (row a p)

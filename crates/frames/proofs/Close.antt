@@ -6,14 +6,17 @@ use mathlib.Core.Path.{◌≡◌, refl, sym, ap, subst, ◌∙◌}
 use native.Mathlib.Omega.{arith}
 use lib.ListN.{length, take}
 use lib.Seq.{take_at}
+use Rattle.std.proofs.Common.{Ok, Err}
+use Rattle.model.specs.declared.Refusal.TheVariants.{NoEntry}
 use Rattle.model.specs.Frame.{is_none}
 use Rattle.model.specs.Run.{State, verdict_text, closed}
 use Rattle.model.specs.Verdict.{verdict}
 use Rattle.laws.specs.Area.{splice}
 use Rattle.frames.specs.declared.Counts.{Counts}
-use Rattle.frames.specs.declared.Step.TheVariants.{Goes, Refuses}
+use Rattle.frames.specs.declared.Store.{Store}
 use Rattle.frames.specs.State.{Stands}
 use Rattle.frames.specs.Step.{StepIs}
+use Rattle.frames.proofs.Stores.{with_text}
 
 -- the counts behind it
 abbrev pub no_words : Counts → Counts
@@ -32,17 +35,17 @@ pub front_of : (old text room : List ℕ) {n : ℕ} → n ≡ length text → ro
 unfolding splice
 front_of old text room {n} e w = ap (take n) w ∙ take_at text _ n (sym e)
 
-module _ (k : Counts) (nws rws cws classes area : List ℕ) (s : State) (h : Stands k nws rws cws classes area s) where
-  pub close-wrong : (room : List ℕ) (b : Bool) → b ≡ false → StepIs (closed s b) (Refuses 2) nws rws cws classes area room
-  close-wrong room b e = subst (λ (x : Bool). StepIs (closed s x) (Refuses 2) nws rws cws classes area room) (sym e) refl
+module _ (k : Counts) (t : Store) (s : State) (h : Stands k t s) where
+  pub close-wrong : (b : Bool) → b ≡ false → StepIs (closed s b) (Err NoEntry) t
+  close-wrong b e = subst (λ (x : Bool). StepIs (closed s x) (Err NoEntry) t) (sym e) refl
 
-  pub close-right : (old room : List ℕ) {n : ℕ} (b : Bool) → b ≡ true →
+  pub close-right : (room : List ℕ) {n : ℕ} (b : Bool) → b ≡ true →
       let text = verdict_text (verdict s.tables.rules s.open-words) in
-      n ≡ length text → room ≡ splice old 0 text → StepIs (closed s b) (Goes (no_words k) n) nws rws cws classes area room
-  close-right old room {n} b e l w =
-      subst (λ (x : Bool). StepIs (closed s x) (Goes (no_words k) n) nws rws cws classes area room) (sym e) (
+      n ≡ length text → room ≡ splice t.room 0 text → StepIs (closed s b) (Ok (no_words k, n)) (with_text t t.area room)
+  close-right room {n} b e l w =
+      subst (λ (x : Bool). StepIs (closed s x) (Ok (no_words k, n)) (with_text t t.area room)) (sym e) (
         l,
-        front_of old _ room l w,
+        front_of t.room _ room l w,
         record {
           kind = refl;
           nodes = h.nodes;

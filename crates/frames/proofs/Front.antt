@@ -21,14 +21,6 @@ use Rattle.connections.proofs.Classes.{classes-none}
 use Rattle.forest.specs.Rows.{connections_of}
 use Rattle.frames.specs.Step.{classes_for}
 
--- the classes that a connection is judged by, where it is the first and where it is not
-pub classes-first : (age : ℕ) (classes : List ℕ) → age ≡ 0 → up_to (length classes) ≡ classes_for age classes
-classes-first age classes e = ap (λ (a : ℕ). classes_for a classes) (sym e)
-
-pub classes-later : (age : ℕ) (classes : List ℕ) → (age ≡ 0 → ⊥) → classes ≡ classes_for age classes
-classes-later zero classes h = absurd (h refl)
-classes-later (suc age) classes h = refl
-
 module _ (ws : List ℕ) (n : ℕ) (ns : List Node) (e : nodes_to ws n ≡ good ns) where
   room : n * node_words ≤ length ws
   room = (nodes ws n ns e).stand.room

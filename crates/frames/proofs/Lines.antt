@@ -9,6 +9,7 @@ use borrow.Author.Tests.{leb-true, leb-false, not-false, not-true}
 use borrow.Rule.Slice.PartMut.{mid_of}
 use lib.Dec.{leb}
 use lib.ListN.{length, get_or}
+use Rattle.model.specs.declared.Refusal.TheVariants.{NoLine}
 use Rattle.model.specs.Limits.{digit_limit}
 use Rattle.model.specs.Frame.{hex_digit, byte_front, hex_pairs, line_bytes, frame_of}
 use Rattle.model.specs.Run.{State, stop, turn_if, in_order, line_turn}
@@ -84,7 +85,7 @@ behind old ws k bs fits e = part-of-written old 0 ws fits (k ∷ []) bs [] (e �
 
 -- the turn of a line that is none, and of one that is
 module _ (s : State) (line : ℕ) (ds : List ℕ) where
-  pub of-no-line : line_bytes ds ≡ none → line_turn s line (line_bytes ds) ≡ stop 1
+  pub of-no-line : line_bytes ds ≡ none → line_turn s line (line_bytes ds) ≡ stop NoLine
   unfolding line_turn
   of-no-line e = rw e refl
 

@@ -4,19 +4,20 @@ use mathlib.Core.List.{List}
 use mathlib.Core.Path.{◌≡◌, refl, sym, subst, ◌∙◌}
 use native.Mathlib.Omega.{arith}
 use native.Mathlib.Numerals.{add-one}
-use Rattle.model.specs.declared.Judgement.TheVariants.{Taken, Faulty}
+use Rattle.std.proofs.Common.{Ok}
 use Rattle.model.specs.Judged.{Judged}
 use Rattle.model.specs.Node.{Node}
 use Rattle.model.specs.Tables.{entries}
 use Rattle.model.specs.Run.{State, node_turn}
-use Rattle.laws.proofs.Judging.{taken-good, faulty-bad}
+use Rattle.laws.proofs.Judging.{taken-good}
 use Rattle.entries.specs.Nodes.{nodes_to}
 use Rattle.entries.specs.Connections.{connections_to}
 use Rattle.tables.specs.Grown.{Grown}
 use Rattle.frames.specs.declared.Counts.{Counts}
-use Rattle.frames.specs.declared.Step.TheVariants.{Goes, Refuses}
+use Rattle.frames.specs.declared.Store.{Store}
 use Rattle.frames.specs.State.{Stands}
 use Rattle.frames.specs.Step.{StepIs}
+use Rattle.frames.proofs.Stores.{with_nodes}
 
 -- the counts behind a node
 abbrev pub one_node : Counts → Counts
@@ -27,16 +28,12 @@ pub no-connection : (ns ms : List Node) (cws : List ℕ) (k : ℕ) → k ≡ 0 �
 unfolding entries
 no-connection ns ms cws k e = rw e refl
 
-module _ (k : Counts) (before after rws cws classes area room : List ℕ) (s : State) (h : Stands k before rws cws classes area s) where
-  pub node-refused : (j : Judged (List Node)) (n : ℕ) {t : Judged (List Node)} → Grown j (Faulty n) t →
-      StepIs (node_turn s j) (Refuses n) after rws cws classes area room
-  node-refused j n g = subst (λ (x : Judged (List Node)). StepIs (node_turn s x) (Refuses n) after rws cws classes area room) (sym (faulty-bad j n g.says)) refl
-
-  pub node-taken : k.connections ≡ 0 → (j : Judged (List Node)) → Grown j Taken (nodes_to after (suc k.nodes)) →
-      StepIs (node_turn s j) (Goes (one_node k) 0) after rws cws classes area room
+module _ (k : Counts) (t : Store) (after : List ℕ) (s : State) (h : Stands k t s) where
+  pub node-taken : k.connections ≡ 0 → (j : Judged (List Node)) → Grown j (Ok tt) (nodes_to after (suc k.nodes)) →
+      StepIs (node_turn s j) (Ok (one_node k, 0)) (with_nodes t after)
   node-taken none j g =
       let a = taken-good j g.says in
-      subst (λ (x : Judged (List Node)). StepIs (node_turn s x) (Goes (one_node k) 0) after rws cws classes area room) (sym a.is) (
+      subst (λ (x : Judged (List Node)). StepIs (node_turn s x) (Ok (one_node k, 0)) (with_nodes t after)) (sym a.is) (
         refl,
         refl,
         record {
@@ -44,7 +41,7 @@ module _ (k : Counts) (before after rws cws classes area room : List ℕ) (s : S
           nodes = rw add-one (g.holds refl ∙ a.is);
           rules = h.rules;
           few = h.few;
-          conns = no-connection a.what s.tables.nodes cws k.connections none ∙ h.conns;
+          conns = no-connection a.what s.tables.nodes t.conns k.connections none ∙ h.conns;
           tops = λ p. absurd (omega arith);
           words = refl;
           fits = omega arith;

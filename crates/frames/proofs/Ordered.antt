@@ -6,19 +6,24 @@ use mathlib.Core.Path.{◌≡◌, refl, sym, ap, subst, ◌∙◌}
 use native.Mathlib.Omega.{arith}
 use borrow.Author.Tests.{le-leb, lt-leb, leb-true, ne_eqb, eq-eqb, not-false, not-true}
 use lib.Dec.{leb, eqb}
+use Rattle.std.proofs.Common.{Err}
+use Rattle.model.specs.declared.Refusal.{Refusal}
+use Rattle.model.specs.declared.Refusal.TheVariants.{NoEntry}
+use Rattle.model.specs.Judged.{Judged, Judgement, bad, judgement_of}
 use Rattle.model.specs.Frame.{node_kind, rule_kind, connection_kind, query_kind, words_kind, end_kind, node_frame, rule_frame, connection_frame, query_frame, words_frame, is_none, Frame, node, rule, connection, query, offered, close, unknown, frame_of}
 use Rattle.model.specs.Node.{add_node}
 use Rattle.model.specs.Rule.{add_rule}
 use Rattle.model.specs.Connect.{add_connection}
 use Rattle.model.specs.Run.{State, Turn, stop, node_turn, rule_turn, connection_turn, queried, opened, closed, frame_turn, turn_if, in_order}
-use Rattle.frames.specs.declared.Step.{Step}
-use Rattle.frames.specs.Step.{StepIs}
+use Rattle.laws.proofs.Judging.{faulty-bad}
+use Rattle.frames.specs.declared.Store.{Store}
+use Rattle.frames.specs.Step.{Step, StepIs}
 
 module _ (s : State) (line kind : ℕ) (bs : List ℕ) where
   abbrev turn : Turn
   turn = turn_if (in_order s.kind kind) s line (frame_of kind bs)
 
-  pub out_of_order : in_order s.kind kind ≡ false → turn_if (in_order s.kind kind) s line (frame_of kind bs) ≡ stop 2
+  pub out_of_order : in_order s.kind kind ≡ false → turn_if (in_order s.kind kind) s line (frame_of kind bs) ≡ stop NoEntry
   out_of_order e = rw e refl
 
   module _ (o : in_order s.kind kind ≡ true) where
@@ -51,7 +56,7 @@ module _ (s : State) (line kind : ℕ) (bs : List ℕ) where
     of_end e = framed (close (is_none bs)) (rw e refl)
 
     pub of_none : (kind ≡ 1 → ⊥) → (kind ≡ 2 → ⊥) → (kind ≡ 3 → ⊥) → (kind ≡ 4 → ⊥) → (kind ≡ 5 → ⊥) → (kind ≡ 6 → ⊥) →
-        turn_if (in_order s.kind kind) s line (frame_of kind bs) ≡ stop 2
+        turn_if (in_order s.kind kind) s line (frame_of kind bs) ≡ stop NoEntry
     unfolding frame_turn frame_of
     of_none a b c d e f =
         framed unknown (rw (ne_eqb kind 1 a, ne_eqb kind 2 b, ne_eqb kind 3 c, ne_eqb kind 4 d, ne_eqb kind 5 e, ne_eqb kind 6 f) refl)
@@ -80,9 +85,14 @@ unfolding in_order
 order-down last kind h e = rw (lt-leb last kind h, ne_eqb last 6 e) refl
 
 -- a step is that of its turn, however the turn is said
-pub as-turn : {t t' : Turn} (r : Step) (nws rws cws classes area room : List ℕ) → t ≡ t' → StepIs t' r nws rws cws classes area room →
-    StepIs t r nws rws cws classes area room
-as-turn r nws rws cws classes area room e h = subst (λ (x : Turn). StepIs x r nws rws cws classes area room) (sym e) h
+pub as-turn : {t t' : Turn} (r : Step) (u : Store) → t ≡ t' → StepIs t' r u → StepIs t r u
+as-turn r u e h = subst (λ (x : Turn). StepIs x r u) (sym e) h
+
+-- a refused entry is the turn's refusal, whichever table it was to be an entry of
+pub refused : {A : Type 0} (turn : Judged A → Turn) → ((q : Refusal) → turn (bad q) ≡ stop q) → (j : Judged A) {g : Judgement} (q : Refusal) (r : Step) (u : Store) →
+    g ≡ Err q → g ≡ judgement_of j → r ≡ Err q → StepIs (turn j) r u
+refused turn stops j q r u was says e =
+    as-turn r u (ap turn (faulty-bad j q (sym was ∙ says)) ∙ stops q) (subst (λ (x : Step). StepIs (stop q) x u) (sym e) refl)
 
 -- a test by the last kind, said of the state
 pub ordered : {b : Bool} (s : State) (last kind : ℕ) → s.kind ≡ last → b ≡ in_order last kind → not b ≡ false → in_order s.kind kind ≡ true

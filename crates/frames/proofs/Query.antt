@@ -2,12 +2,13 @@
 use Prim.Native.Nat.{ℕ, ◌+◌, ◌*◌, ◌≤◌, ◌<◌}
 use mathlib.Core.List.{List, ◌++◌, append_assoc}
 use mathlib.Core.Option.{Option, none, some}
-use mathlib.Core.Path.{◌≡◌, refl, sym, ap, ap₂, subst, ◌∙◌}
+use mathlib.Core.Path.{◌≡◌, refl, sym, ap, ap₂, subst, subst₂, ◌∙◌}
 use native.Mathlib.Omega.{arith}
 use lib.ListN.{length, take, get_or, length-append}
 use lib.Seq.{length-take-le, get_or-take, take_at}
-use Rattle.model.specs.declared.Answer.{Answer}
-use Rattle.model.specs.declared.Answer.TheVariants.{Written, Refused}
+use Rattle.std.proofs.Common.{Some, None, Ok, Err}
+use Rattle.std.specs.Prelude.{Option as Found}
+use Rattle.model.specs.declared.Refusal.TheVariants.{NoEntry}
 use Rattle.model.specs.declared.NodeNo.{NodeNo}
 use Rattle.model.specs.Limits.{program_area}
 use Rattle.model.specs.Judged.{good}
@@ -15,7 +16,7 @@ use Rattle.model.specs.Term.{Reads}
 use Rattle.model.specs.Text.{bytes, digits, lines}
 use Rattle.model.specs.Node.{Node}
 use Rattle.model.specs.Tables.{node_words, connection_words}
-use Rattle.model.specs.Query.{Tables, proof_of, proof_words, answer, area_by, area_after}
+use Rattle.model.specs.Query.{Tables, proof_of, proof_words, Answer, answer, area_by, area_after}
 use Rattle.model.specs.Frame.{NodePair}
 use Rattle.model.specs.Run.{State, answer_text, queried}
 use Rattle.letters.proofs.Digits.{all_digits}
@@ -35,16 +36,15 @@ use Rattle.flat.proofs.FlatProof.{narrow}
 use Rattle.flat.proofs.Tables.{table-nodes}
 use Rattle.explanation.specs.Query.{Responds}
 use Rattle.explanation.proofs.Answers.{is-written, answered as written}
-use Rattle.decode.specs.declared.Pair.{Pair}
-use Rattle.decode.specs.declared.Pair.TheVariants.{Nodes, Wrong}
 use Rattle.decode.specs.Asked.{pair_of}
 use Rattle.frames.specs.declared.Counts.{Counts}
-use Rattle.frames.specs.declared.Step.TheVariants.{Goes, Refuses}
+use Rattle.frames.specs.declared.Store.{Store}
 use Rattle.frames.specs.State.{Stands, text_room}
-use Rattle.frames.specs.Step.{StepIs}
-use Rattle.frames.specs.Answer.{Printable, answered, reply_text, Replies}
+use Rattle.frames.specs.Step.{Step, StepIs}
+use Rattle.frames.specs.Answer.{Printable, answered, reply_text}
 use Rattle.frames.proofs.Front.{front-nodes, front-whole, front-connections, front-supported}
 use Rattle.frames.proofs.Close.{front_of}
+use Rattle.frames.proofs.Stores.{with_text}
 
 distance-few : (d : ℕ) → length (distance_text d) ≤ 30
 unfolding distance_text bytes
@@ -88,8 +88,10 @@ record Said (t : Tables) (l r : ℕ) (a : Answer) (area : List ℕ) : Type 0 whe
 says : (t : Tables) → AcceptedTables t → (l r : ℕ) (a : Answer) (area : List ℕ) → a ≡ answer t program_area l r →
     area ≡ area_after t program_area l r → Said t l r a area
 unfolding answer_text area_after
-says t ok l r (Refused n) area e h = record { prints = tt; text = λ line. refl }
-says t ok l r (Written d w) area e h =
+says t ok l r (Err q) area e h = record { prints = tt; text = λ line. refl }
+says t ok l r (Ok x) area e h =
+    let d = x.distance in
+    let w = x.words in
     let k = written t ok program_area l r d w (sym e) in
     let q = e ∙ is-written t l r k.known k.linked ok k.near program_area k.fits k.few in
     let n : length (proof_words t l r) ≡ w = cc in
@@ -153,30 +155,34 @@ module _ (k : Counts) (nws cws : List ℕ) (t : Tables) (n : nodes_to nws k.node
 abbrev pub after_query : Counts → Counts
 after_query k = record { kind = 4; nodes = k.nodes; rules = k.rules; connections = k.connections; offered = 0 }
 
-abbrev left_of : Pair → ℕ
-left_of (Nodes l r) = l.0
-left_of Wrong = 0
+abbrev left_of : Found (NodeNo × NodeNo) → ℕ
+left_of (Some (l, r)) = l.0
+left_of None = 0
 
-abbrev right_of : Pair → ℕ
-right_of (Nodes l r) = r.0
-right_of Wrong = 0
+abbrev right_of : Found (NodeNo × NodeNo) → ℕ
+right_of (Some (l, r)) = r.0
+right_of None = 0
 
-module _ (k : Counts) (nws rws cws classes before : List ℕ) (s : State) (h : Stands k nws rws cws classes before s) (line : ℕ) where
-  pub query-wrong : (o : Option NodePair) (area room : List ℕ) → Wrong ≡ pair_of o →
-      StepIs (queried s line o) (Refuses 2) nws rws cws classes area room
-  query-wrong none area room e = refl
-  query-wrong (some p) area room e = let z : ◌≡◌ {A = ℕ} 0 1 = cc in absurd (omega arith)
+module _ (k : Counts) (t : Store) (s : State) (h : Stands k t s) (line : ℕ) where
+  pub query-wrong : (o : Option NodePair) → None ≡ pair_of o → StepIs (queried s line o) (Err NoEntry) t
+  query-wrong none e = refl
+  query-wrong (some p) e = let z : ◌≡◌ {A = ℕ} 0 1 = cc in absurd (omega arith)
 
-  pub query-right : (o : Option NodePair) {l r : NodeNo} (old area room : List ℕ) {n : ℕ} → Nodes l r ≡ pair_of o →
-      Replies k nws cws line l.0 r.0 n area old room → StepIs (queried s line o) (Goes (after_query k) n) nws rws cws classes area room
-  query-right none old area room e x = let z : ◌≡◌ {A = ℕ} 0 1 = cc in absurd (omega arith)
-  query-right (some p) {l} {r} old area room e x =
-      let y = x s.tables h.nodes h.conns in
-      let same : reply_text s.tables line l.0 r.0 ≡ reply_text s.tables line p.left p.right =
-      ap₂ (reply_text s.tables line) (ap left_of e) (ap right_of e) in
-      let z = y.0 ∙ ap length same in (
+  -- the pair that a frame says
+  pub query-pair : (o : Option NodePair) {l r : NodeNo} (x : Step) (u : Store) → Some (l, r) ≡ pair_of o →
+      StepIs (queried s line (some (record { left = l.0; right = r.0 }))) x u → StepIs (queried s line o) x u
+  query-pair none x u e w = let z : ◌≡◌ {A = ℕ} 0 1 = cc in absurd (omega arith)
+  query-pair (some p) {l} {r} x u e w =
+      subst₂ (λ (a b : ℕ). StepIs (queried s line (some (record { left = a; right = b }))) x u) (ap left_of e) (ap right_of e) w
+
+  -- a pair is answered
+  pub query-right : {l r : ℕ} {a : Answer} (area room : List ℕ) {n : ℕ} → Replied s.tables l r a area →
+      n ≡ length (answered a line area) → room ≡ splice t.room 0 (answered a line area) →
+      StepIs (queried s line (some (record { left = l; right = r }))) (Ok (after_query k, n)) (with_text t area room)
+  query-right area room x e w =
+      let z = e ∙ ap length (x.text line) in (
         z,
-        front_of old _ room z (y.1 ∙ ap (splice old 0) same),
+        front_of t.room _ room z (w ∙ ap (splice t.room 0) (x.text line)),
         record {
           kind = refl;
           nodes = h.nodes;

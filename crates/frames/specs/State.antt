@@ -1,4 +1,4 @@
--- The run's state, as the counts and the lent tables hold it.
+-- The run's state, as the counts and the store hold it.
 use Rattle.std.specs.Prelude.{ℕ, ◌+◌, ◌*◌, ◌/◌, ◌≤◌, ◌<◌, List, ◌≡◌, length, take}
 use Rattle.model.specs.declared.Connection.{Connection}
 use Rattle.model.specs.Limits.{node_limit, rule_limit, program_area, flat_words, digit_limit}
@@ -13,6 +13,7 @@ use Rattle.entries.specs.Connections.{connections_to}
 use Rattle.connections.specs.Classes.{Classes}
 use Rattle.reports.specs.Reports.{report_room}
 use Rattle.frames.specs.declared.Counts.{Counts}
+use Rattle.frames.specs.declared.Store.{Store}
 
 -- room for one node more than there may be
 abbrev pub node_room : ℕ
@@ -35,18 +36,18 @@ text_room = program_area / flat_words * 28 + report_room
 -- The counted entries are the run's tables, each accepted behind those before it; the counted words are those of the open proof. What
 -- stands behind them plays no part. The classes are those of the connections, once there is one; before the first frame of a
 -- connection there is none.
-pub record Stands (k : Counts) (nws rws cws classes area : List ℕ) (s : State) : Type 0 where
+pub record Stands (k : Counts) (t : Store) (s : State) : Type 0 where
   pub kind : s.kind ≡ k.kind
-  pub nodes : nodes_to nws k.nodes ≡ good s.tables.nodes
-  pub rules : rules_in rws k.rules ≡ good s.tables.rules
+  pub nodes : nodes_to t.nodes k.nodes ≡ good s.tables.nodes
+  pub rules : rules_in t.rules k.rules ≡ good s.tables.rules
   pub few : k.rules ≤ rule_limit
-  pub conns : connections_to s.tables.nodes cws k.connections ≡ good s.tables.conns
-  pub tops : 0 < k.connections → Classes s.tables.conns k.nodes (take k.nodes classes)
-  pub words : take k.offered area ≡ s.open-words
+  pub conns : connections_to s.tables.nodes t.conns k.connections ≡ good s.tables.conns
+  pub tops : 0 < k.connections → Classes s.tables.conns k.nodes (take k.nodes t.classes)
+  pub words : take k.offered t.area ≡ s.open-words
   pub fits : k.offered ≤ program_area
   pub fresh : k.kind < connection_kind → k.connections ≡ 0
 
--- what judging a connection wants of it
+-- what judging a connection wants of the tables that it reads, and how long they are
 pub record Held (k : Counts) (nws cws classes : List ℕ) : Type 0 where
   pub nodes : List Node
   pub conns : List Connection
@@ -54,29 +55,12 @@ pub record Held (k : Counts) (nws cws classes : List ℕ) : Type 0 where
   pub joins : connections_to nodes cws k.connections ≡ good conns
   pub tops : 0 < k.connections → Classes conns k.nodes (take k.nodes classes)
 
--- what a query wants of it: the counted entries are accepted
-pub record Counted (k : Counts) (nws cws : List ℕ) : Type 0 where
-  pub nodes : List Node
-  pub conns : List Connection
-  pub table : nodes_to nws k.nodes ≡ good nodes
-  pub joins : connections_to nodes cws k.connections ≡ good conns
-
--- how long the lent tables are
 pub record Rooms (nws cws tops : List ℕ) : Type 0 where
   pub nodes : length nws ≡ node_room
   pub conns : length cws ≡ connection_room
   pub classes : length tops ≡ node_limit
 
--- the tables hold some state of the run
-pub record Running (k : Counts) (nws rws cws classes area : List ℕ) : Type 0 where
+-- the store holds some state of the run
+pub record Running (k : Counts) (t : Store) : Type 0 where
   pub state : State
-  pub stands : Stands k nws rws cws classes area state
-
--- how long everything is that is lent
-pub record Lent (nws rws cws tops words text : List ℕ) : Type 0 where
-  pub nodes : length nws ≡ node_room
-  pub rules : length rws ≡ rule_room
-  pub conns : length cws ≡ connection_room
-  pub classes : length tops ≡ node_limit
-  pub area : length words ≡ program_area
-  pub room : length text ≡ text_room
+  pub stands : Stands k t state

@@ -1,43 +1,38 @@
 // What a frame of each kind comes to: an entry taken or refused, a query answered, words put to an open proof, a verdict.
-ghost use Rattle.std.specs.Prelude.{◌≡◌, ◌≤◌, length};
-ghost use Rattle.model.specs.Limits.{node_limit, rule_limit, program_area};
+ghost use Rattle.std.specs.Prelude.{◌≡◌, ◌≤◌, length, Some};
+ghost use Rattle.model.specs.Limits.{node_limit, program_area};
 ghost use Rattle.model.specs.Frame.{words_frame};
-ghost use Rattle.tables.specs.Grown.{NodesHeld, RulesHeld};
 ghost use Rattle.decode.specs.Asked.{offered_of};
-ghost use Rattle.decode.specs.declared.Offered.TheVariants.{Words};
 ghost use Rattle.laws.specs.Area.{splice};
-ghost use Rattle.frames.specs.Answer.{Printable, answered, Replies};
-ghost use Rattle.frames.specs.State.{node_room, rule_room, connection_room, text_room, Held, Counted, Rooms};
-ghost use Rattle.frames.specs.Step.{classes_for, NodeStep, RuleStep, ConnectionStep, WordsStep, CloseStep, QueryStep};
+ghost use Rattle.frames.specs.Answer.{Printable, answered};
+ghost use Rattle.frames.specs.State.{text_room, Held, Rooms, Running};
+ghost use Rattle.frames.specs.Step.{classes_for, NodeStep, RuleStep, ConnectionStep, WordsStep, CloseStep, QueryStep, PairStep};
 
-use super::{AREA_WORDS, Counts, Step};
+use super::{
+    AREA_WORDS, CONNECTION_KIND, Counts, END_KIND, NODE_KIND, QUERY_KIND, RULE_KIND, Step, Store,
+    WORDS_KIND,
+};
 use connections::part;
-use decode::{Offered, Pair, pair_of, put_words, words_in};
-use model::{Answer, CONNECTION_WORDS, Judgement, NODE_WORDS, NodeNo, RULE_WORDS};
+use decode::{pair_of, put_words, words_in};
+use model::{Answer, CONNECTION_WORDS, NODE_WORDS, NodeNo, RULE_WORDS, Refusal, Written};
 use reports::{put_distance, put_refusal, put_verdict};
 use tables::{take_connection, take_node, take_rule};
 use text::put_lines;
 
 // 01: a node.
-pub fn node_step(counts: Counts, bytes: &[u8], nodes: &mut [u16]) -> Step
-    requires { NodesHeld nodes.old counts.nodes × (length nodes.old ≡ node_room) }
-    ensures { NodeStep counts bytes.now nodes.old result nodes.new }
+pub fn node_step(counts: Counts, bytes: &[u8], store: &mut Store) -> Step
+    requires { Running counts store.old }
+    ensures { NodeStep counts bytes.now store.old result store.new }
 {
     let n = counts.nodes;
-    let judged = take_node(nodes, n, bytes);
-    match judged {
-        Judgement::Faulty(number) => Step::Refuses(number),
-        Judgement::Taken => Step::Goes(
-            Counts {
-                kind: 1,
-                nodes: n + 1,
-                rules: counts.rules,
-                connections: counts.connections,
-                offered: 0,
-            },
-            0,
-        ),
-    }
+    take_node(&mut store.nodes, n, bytes)?;
+    let counts = Counts {
+        kind: NODE_KIND,
+        nodes: n + 1,
+        offered: 0,
+        ..counts
+    };
+    Ok((counts, 0))
 }
 
 // The classes that a connection is judged by: before the first one each node is a class of its own.
@@ -50,7 +45,8 @@ fn ready(classes: &mut [u16], connections: usize)
     }
 }
 
-// 03: a connection.
+// 03: a connection. The classes are cut here, where they are a slice: no proof is made of a cut of a store's array that is lent along
+// with another one.
 pub fn connection_step(
     counts: Counts,
     bytes: &[u8],
@@ -65,108 +61,81 @@ pub fn connection_step(
     let age = counts.connections;
     let words = n * NODE_WORDS;
     ready(&mut classes[..n], age);
-    let judged = take_connection(&nodes[..words], conns, &mut classes[..n], age, bytes);
-    match judged {
-        Judgement::Faulty(number) => Step::Refuses(number),
-        Judgement::Taken => Step::Goes(
-            Counts {
-                kind: 3,
-                nodes: n,
-                rules: counts.rules,
-                connections: age + 1,
-                offered: 0,
-            },
-            0,
-        ),
-    }
+    take_connection(&nodes[..words], conns, &mut classes[..n], age, bytes)?;
+    let counts = Counts {
+        kind: CONNECTION_KIND,
+        connections: age + 1,
+        offered: 0,
+        ..counts
+    };
+    Ok((counts, 0))
 }
 
-// Words of an offered proof behind those that are open: 11 where they outgrow the area.
-fn add_words(counts: Counts, words: usize, bytes: &[u8], area: &mut [u16]) -> Step
-    requires { (counts.offered ≤ program_area) × (offered_of (words_frame bytes.now) ≡ Words words) × (length area.old ≡ program_area) }
-    ensures { WordsStep counts bytes.now area.old result area.new }
+// Words of an offered proof behind those that are open: refused where they outgrow the area.
+fn add_words(counts: Counts, words: usize, bytes: &[u8], store: &mut Store) -> Step
+    requires running { Running counts store.old }
+    requires said { offered_of (words_frame bytes.now) ≡ Some words }
+    ensures { WordsStep counts bytes.now store.old result store.new }
 {
     let from = counts.offered;
     if words > AREA_WORDS - from {
-        return Step::Refuses(11);
+        return Err(Refusal::NoRoom);
     }
     let end = from + words;
-    put_words(bytes, &mut area[from..end]);
-    Step::Goes(
-        Counts {
-            kind: 5,
-            nodes: counts.nodes,
-            rules: counts.rules,
-            connections: counts.connections,
-            offered: end,
-        },
-        0,
-    )
+    put_words(bytes, &mut store.area[from..end]);
+    let counts = Counts {
+        kind: WORDS_KIND,
+        offered: end,
+        ..counts
+    };
+    Ok((counts, 0))
 }
 
 // 05: words of an offered proof.
-pub fn words_step(counts: Counts, bytes: &[u8], area: &mut [u16]) -> Step
-    requires { (counts.offered ≤ program_area) × (length area.old ≡ program_area) }
-    ensures { WordsStep counts bytes.now area.old result area.new }
+pub fn words_step(counts: Counts, bytes: &[u8], store: &mut Store) -> Step
+    requires { Running counts store.old }
+    ensures { WordsStep counts bytes.now store.old result store.new }
 {
-    let found = words_in(bytes);
-    match found {
-        Offered::Wrong => Step::Refuses(2),
-        Offered::Words(words) => add_words(counts, words, bytes, area),
-    }
+    let Some(words) = words_in(bytes) else {
+        return Err(Refusal::NoEntry);
+    };
+    add_words(counts, words, bytes, store)
 }
 
 // 02: a rule.
-pub fn rule_step(counts: Counts, bytes: &[u8], rules: &mut [u16]) -> Step
-    requires { RulesHeld rules.old counts.rules × (counts.rules ≤ rule_limit) × (length rules.old ≡ rule_room) }
-    ensures { RuleStep counts bytes.now rules.old result rules.new }
+pub fn rule_step(counts: Counts, bytes: &[u8], store: &mut Store) -> Step
+    requires { Running counts store.old }
+    ensures { RuleStep counts bytes.now store.old result store.new }
 {
     let n = counts.rules;
-    let judged = take_rule(rules, n, bytes);
-    match judged {
-        Judgement::Faulty(number) => Step::Refuses(number),
-        Judgement::Taken => Step::Goes(
-            Counts {
-                kind: 2,
-                nodes: counts.nodes,
-                rules: n + 1,
-                connections: counts.connections,
-                offered: 0,
-            },
-            0,
-        ),
-    }
+    take_rule(&mut store.rules, n, bytes)?;
+    let counts = Counts {
+        kind: RULE_KIND,
+        rules: n + 1,
+        offered: 0,
+        ..counts
+    };
+    Ok((counts, 0))
 }
 
 // 06: the end of an offered proof, and the verdict on it.
-pub fn close_step(
-    counts: Counts,
-    bytes: &[u8],
-    rules: &[u16],
-    area: &[u16],
-    room: &mut [u8],
-) -> Step
-    requires rules_held { RulesHeld rules.now counts.rules × (length rules.now ≡ rule_room) }
-    requires offered_le_program_area { (counts.offered ≤ program_area) × (length area.now ≡ program_area) × (length room.old ≡ text_room) }
-    ensures { CloseStep counts bytes.now rules.now area.now result room.new }
+pub fn close_step(counts: Counts, bytes: &[u8], store: &mut Store) -> Step
+    requires { Running counts store.old }
+    ensures { CloseStep counts bytes.now store.old result store.new }
 {
     if bytes.len() != 0 {
-        return Step::Refuses(2);
+        return Err(Refusal::NoEntry);
     }
     let end = counts.rules * RULE_WORDS;
     let words = counts.offered;
-    let verdict = checker::check(&rules[..end], &area[..words]);
-    let printed = put_verdict(room, verdict);
-    Step::Goes(
-        Counts {
-            kind: 6,
-            nodes: counts.nodes,
-            rules: counts.rules,
-            connections: counts.connections,
-            offered: 0,
-        },
-        printed,
-    )
+    let verdict = checker::check(&store.rules[..end], &store.area[..words]);
+    let printed = put_verdict(&mut store.room, verdict);
+    let counts = Counts {
+        kind: END_KIND,
+        offered: 0,
+        ..counts
+    };
+    Ok((counts, printed))
 }
 
 // What an answered query prints, or a refused one.
@@ -176,64 +145,44 @@ fn put_answer(answer: Answer, line: u64, area: &[u16], room: &mut [u8]) -> usize
     ensures room_after { room.new ≡ splice room.old 0 (answered answer line area.now) }
 {
     match answer {
-        Answer::Refused(number) => put_refusal(room, number, line),
-        Answer::Written(distance, words) => {
+        Ok(Written { distance, words }) => {
             let at = put_distance(room, distance);
             put_lines(&area[..words], room, at)
         }
+        Err(refusal) => put_refusal(room, u16::from(refusal), line),
     }
 }
 
 // The answer to a query over the counted entries, and what it prints.
-fn respond_to(
-    counts: Counts,
-    line: u64,
-    left: NodeNo,
-    right: NodeNo,
-    nodes: &[u16],
-    conns: &[u16],
-    area: &mut [u16],
-    room: &mut [u8],
-) -> usize
-    requires counted { Counted counts nodes.now conns.now × (length conns.now ≡ connection_room) }
-    requires area_len { (length area.old ≡ program_area) × (length room.old ≡ text_room) }
-    ensures { Replies counts nodes.now conns.now line left.0 right.0 result area.new room.old room.new }
+fn respond_to(counts: Counts, line: u64, left: NodeNo, right: NodeNo, store: &mut Store) -> Step
+    requires { Running counts store.old }
+    ensures { PairStep counts line left.0 right.0 store.old result store.new }
 {
     let n = counts.nodes * NODE_WORDS;
     let c = counts.connections * CONNECTION_WORDS;
-    let answer = explanation::respond(&nodes[..n], &conns[..c], left, right, area);
-    put_answer(answer, line, area, room)
+    let answer = explanation::respond(
+        &store.nodes[..n],
+        &store.conns[..c],
+        left,
+        right,
+        &mut store.area,
+    );
+    let printed = put_answer(answer, line, &store.area, &mut store.room);
+    let counts = Counts {
+        kind: QUERY_KIND,
+        offered: 0,
+        ..counts
+    };
+    Ok((counts, printed))
 }
 
 // 04: a query.
-pub fn query_step(
-    counts: Counts,
-    line: u64,
-    bytes: &[u8],
-    nodes: &[u16],
-    conns: &[u16],
-    area: &mut [u16],
-    room: &mut [u8],
-) -> Step
-    requires counted { Counted counts nodes.now conns.now × (length conns.now ≡ connection_room) }
-    requires area_len { (length area.old ≡ program_area) × (length room.old ≡ text_room) }
-    ensures { QueryStep counts line bytes.now nodes.now conns.now area.old result area.new room.new }
+pub fn query_step(counts: Counts, line: u64, bytes: &[u8], store: &mut Store) -> Step
+    requires { Running counts store.old }
+    ensures { QueryStep counts line bytes.now store.old result store.new }
 {
-    let asked = pair_of(bytes);
-    match asked {
-        Pair::Wrong => Step::Refuses(2),
-        Pair::Nodes(left, right) => {
-            let printed = respond_to(counts, line, left, right, nodes, conns, area, room);
-            Step::Goes(
-                Counts {
-                    kind: 4,
-                    nodes: counts.nodes,
-                    rules: counts.rules,
-                    connections: counts.connections,
-                    offered: 0,
-                },
-                printed,
-            )
-        }
-    }
+    let Some((left, right)) = pair_of(bytes) else {
+        return Err(Refusal::NoEntry);
+    };
+    respond_to(counts, line, left, right, store)
 }

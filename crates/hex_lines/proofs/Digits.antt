@@ -1,38 +1,60 @@
 -- A digit's value is below 16, and a pair of digits is a byte.
 use Prim.Native.Nat.{ℕ, ◌+◌, ◌-◌, ◌≤◌, ◌<◌}
-use mathlib.Core.Bool.{Bool, true, false, ◌&&◌}
+use mathlib.Core.Bool.{Bool, true, false, ◌&&◌, false≢true}
 use mathlib.Core.List.{List, [], ◌∷◌}
 use mathlib.Core.Option.{Option, none, some}
-use mathlib.Core.Path.{◌≡◌, refl, ap, ◌∙◌}
+use mathlib.Core.Path.{◌≡◌, refl, sym, ap, subst, ◌∙◌}
 use native.Mathlib.Omega.{arith}
 use borrow.Author.Tests.{le-leb, lt-leb, leb-true}
 use lib.Dec.{leb}
 use lib.ListN.{length, get_or, drop, length-drop}
 use lib.Seq.{get_or-drop, drop-drop}
 use Rattle.model.specs.Frame.{is_between, hex_by, hex_digit, byte_front, hex_pairs}
+use Rattle.std.specs.Prelude.{Option as Said, Some, None, is_some, IsSome}
+use Rattle.laws.specs.Present.{present}
 use Rattle.hex_lines.specs.Line.{value_of}
 
--- what the tests of a byte say of its value
+-- what the ranges of a byte say of its value
 module _ (b : ℕ) where
-  pub below : b < 48 → 16 ≡ value_of (hex_digit b)
+  pub below : b < 48 → None ≡ value_of (hex_digit b)
   unfolding hex_digit
   below h = rw (lt-leb 48 b h, lt-leb 97 b (omega arith)) refl
 
-  pub number : 48 ≤ b → b ≤ 57 → b - 48 ≡ value_of (hex_digit b)
+  pub number : 48 ≤ b → b ≤ 57 → Some (b - 48) ≡ value_of (hex_digit b)
   unfolding hex_digit
   number h g = rw (le-leb 48 b h, le-leb b 57 g) refl
 
-  pub between : 57 < b → b < 97 → 16 ≡ value_of (hex_digit b)
+  pub between : 57 < b → b < 97 → None ≡ value_of (hex_digit b)
   unfolding hex_digit
   between h g = rw (le-leb 48 b (omega arith), lt-leb b 57 h, lt-leb 97 b g) refl
 
-  pub letter : 97 ≤ b → b ≤ 102 → b - 87 ≡ value_of (hex_digit b)
+  pub letter : 97 ≤ b → b ≤ 102 → Some (b - 97 + 10) ≡ value_of (hex_digit b)
   unfolding hex_digit
-  letter h g = rw (le-leb 48 b (omega arith), lt-leb b 57 (omega arith), le-leb 97 b h, le-leb b 102 g) refl
+  letter h g = rw (le-leb 48 b (omega arith), lt-leb b 57 (omega arith), le-leb 97 b h, le-leb b 102 g) (ap Some (omega arith))
 
-  pub above : 102 < b → 16 ≡ value_of (hex_digit b)
+  pub above : 102 < b → None ≡ value_of (hex_digit b)
   unfolding hex_digit
   above h = rw (le-leb 48 b (omega arith), lt-leb b 57 (omega arith), le-leb 97 b (omega arith), lt-leb b 102 h) refl
+
+-- a digit's value as a number
+abbrev pub digit_of : Option ℕ → ℕ
+digit_of none = 0
+digit_of (some v) = v
+
+pub said-digit : (o : Option ℕ) {v : ℕ} → value_of o ≡ Some v → v ≡ digit_of o
+said-digit none e = let z : ◌≡◌ {A = ℕ} 0 1 = cc in absurd (omega arith)
+said-digit (some w) e = cc
+
+pub said-there : (o : Option ℕ) {r : Said ℕ} → r ≡ value_of o → present o ≡ true → IsSome r
+said-there o {r} e h = subst IsSome (sym e) (by o h)
+  where
+    by : (x : Option ℕ) → present x ≡ true → IsSome (value_of x)
+    by none q = absurd (false≢true q)
+    by (some v) q = refl
+
+pub said-some : (o : Option ℕ) → is_some (value_of o) ≡ present o
+said-some none = refl
+said-some (some v) = refl
 
 both : (a b : Bool) → a && b ≡ true → (a ≡ true) × (b ≡ true)
 both true b e = (refl, e)
@@ -52,18 +74,6 @@ small b v e = by (is_between 48 b 57) (is_between 97 b 102) refl refl e
         let d : b - 87 ≡ v = cc in
         omega (arith, leb-true b 102 w.1)
     by false false p q e = let z : ◌≡◌ {A = ℕ} 0 1 = cc in absurd (omega arith)
-
--- a value below 16 is a digit's, and another none's
-pub a-digit : (o : Option ℕ) → value_of o < 16 → o ≡ some (value_of o)
-a-digit none h = absurd (omega arith)
-a-digit (some v) h = refl
-
-pub none-there : (b : ℕ) → 16 ≤ value_of (hex_digit b) → hex_digit b ≡ none
-none-there b h = by (hex_digit b) refl h
-  where
-    by : (o : Option ℕ) → hex_digit b ≡ o → 16 ≤ value_of o → o ≡ none
-    by none e h = refl
-    by (some v) e h = absurd (omega (arith, small b v e))
 
 -- the first pair of digits, and those behind it
 first-pair : (l : List ℕ) → 2 ≤ length l → hex_pairs l ≡ byte_front (hex_digit (get_or l 0 0)) (hex_digit (get_or l 1 0)) (hex_pairs (drop 2 l))

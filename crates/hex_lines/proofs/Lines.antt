@@ -1,19 +1,20 @@
 -- Lines: the walk over pairs of digits finds whether there is one.
-use Prim.Native.Nat.{ℕ, ◌+◌, ◌%◌, ◌≤◌, ◌<◌}
-use mathlib.Core.Bool.{Bool, true, false}
+use Prim.Native.Nat.{ℕ, zero, suc, ◌+◌, ◌%◌, ◌≤◌, ◌<◌}
+use mathlib.Core.Bool.{Bool, true, false, false≢true}
 use mathlib.Core.List.{List, [], ◌∷◌}
 use mathlib.Core.Option.{Option, none, some}
-use mathlib.Core.Path.{◌≡◌, refl, sym, ap, ap₂, ◌∙◌}
+use mathlib.Core.Path.{◌≡◌, refl, sym, ap, ◌∙◌}
 use native.Mathlib.Omega.{arith}
 use borrow.Author.Tests.{le-leb, lt-leb, leb-true, leb-false}
 use lib.Dec.{leb}
-use lib.ListN.{length, get_or, take, drop, drop_of_length-le}
+use lib.ListN.{length, get_or, take}
 use lib.Seq.{take_all, length-take-le}
 use Rattle.model.specs.Limits.{digit_limit}
 use Rattle.model.specs.Frame.{hex_digit, byte_front, hex_pairs, line_bytes}
 use Rattle.laws.specs.Present.{present}
 use Rattle.hex_lines.specs.Line.{value_of}
-use Rattle.hex_lines.proofs.Digits.{a-digit, none-there, pair-at}
+use Rattle.hex_lines.proofs.Digits.{said-some}
+use Rattle.std.specs.Prelude.{◌↔◌, is_some, EachIndex}
 
 -- "is empty, exceeds 8,192 digits"
 module _ (ds : List ℕ) where
@@ -39,7 +40,6 @@ cut_line ds = by (leb (length ds) digit_limit) refl
         let h = leb-false (length ds) digit_limit e in
         many-digits (take (digit_limit + 1) ds) (omega (arith, length-take-le (digit_limit + 1) ds (omega arith))) ∙ sym (many-digits ds (omega arith))
 
--- What the walk over the pairs finds.
 pub odd-digits : (ds : List ℕ) → (length ds % 2 ≡ 0 → ⊥) → present (hex_pairs ds) ≡ false
 unfolding hex_pairs
 odd-digits [] h = absurd (h refl)
@@ -56,48 +56,51 @@ no-low : (h : Option ℕ) (r : Option (List ℕ)) → present (byte_front h none
 no-low none r = refl
 no-low (some h) r = refl
 
-and_byte : (h l : ℕ) (r : Option (List ℕ)) → present r ≡ present (byte_front (some h) (some l) r)
-and_byte h l none = refl
-and_byte h l (some bs) = refl
+-- an even number of bytes is a line's pairs where all of them are digits
+abbrev pub Digits : List ℕ → Type 0
+Digits ds = (k : ℕ) → k < length ds → present (hex_digit (get_or ds k 0)) ≡ true
 
--- where the walk is: the digits left decide
-pub record Walk (ds : List ℕ) (i : ℕ) : Type 0 where
-  pub within : i ≤ length ds
-  pub even : i % 2 ≡ 0
-  pub goes : present (hex_pairs (drop i ds)) ≡ present (line_bytes ds)
-
-module _ (ds : List ℕ) (whole : length ds % 2 ≡ 0) (i : ℕ) (w : Walk ds i) (here : i < length ds) where
-  room : i + 2 ≤ length ds
-  room = omega (arith, w.within, w.even)
-
-  pub walk-room : i + 1 < length ds
-  walk-room = omega (arith, room)
-
-  goes-pair : present (byte_front (hex_digit (get_or ds i 0)) (hex_digit (get_or ds (i + 1) 0)) (hex_pairs (drop (i + 2) ds))) ≡ present (line_bytes ds)
-  goes-pair = ap present (sym (pair-at ds i room)) ∙ w.goes
-
-  pub no-high-digit : 16 ≤ value_of (hex_digit (get_or ds i 0)) → false ≡ present (line_bytes ds)
-  no-high-digit h = rw (none-there (get_or ds i 0) h) at goes-pair
-
-  pub no-low-digit : 16 ≤ value_of (hex_digit (get_or ds (i + 1) 0)) → false ≡ present (line_bytes ds)
-  no-low-digit h =
-      sym (no-low (hex_digit (get_or ds i 0)) (hex_pairs (drop (i + 2) ds)))
-      ∙ ap (λ (o : Option ℕ). present (byte_front (hex_digit (get_or ds i 0)) o (hex_pairs (drop (i + 2) ds)))) (sym (none-there (get_or ds (i + 1) 0) h))
-      ∙ goes-pair
-
-  pub walk_more : value_of (hex_digit (get_or ds i 0)) < 16 → value_of (hex_digit (get_or ds (i + 1) 0)) < 16 → Walk ds (i + 2)
-  walk_more h l = record {
-    within = room;
-    even = omega (arith, w.even);
-    goes =
-        and_byte (value_of (hex_digit (get_or ds i 0))) (value_of (hex_digit (get_or ds (i + 1) 0))) (hex_pairs (drop (i + 2) ds))
-        ∙ ap₂ (λ (x y : Option ℕ). present (byte_front x y (hex_pairs (drop (i + 2) ds)))) (sym (a-digit (hex_digit (get_or ds i 0)) h)) (sym (a-digit (hex_digit (get_or ds (i + 1) 0)) l))
-        ∙ goes-pair;
-  }
-
-pub walk_start : (ds : List ℕ) → (length ds ≡ 0 → ⊥) → length ds ≤ digit_limit → Walk ds 0
-walk_start ds h g = record { within = omega arith; even = refl; goes = ap present (sym (as-pairs ds h g)) }
-
-pub walk-done : (ds : List ℕ) (i : ℕ) → Walk ds i → length ds ≤ i → true ≡ present (line_bytes ds)
+pub all-digits : (ds : List ℕ) → length ds % 2 ≡ 0 → Digits ds → present (hex_pairs ds) ≡ true
 unfolding hex_pairs
-walk-done ds i w h = ap (λ (l : List ℕ). present (hex_pairs l)) (sym (drop_of_length-le ds {i = i} h)) ∙ w.goes
+all-digits [] e d = refl
+all-digits (a ∷ []) e d = let z : ◌≡◌ {A = ℕ} 1 0 = e in absurd (omega arith)
+all-digits (a ∷ b ∷ ds) e d =
+    by (hex_digit a) (hex_digit b) (hex_pairs ds) (d 0 (omega arith)) (d 1 (omega arith))
+    (all-digits ds (omega (arith, e)) (λ k h. d (suc (suc k)) (omega arith)))
+  where
+    by : (x y : Option ℕ) (r : Option (List ℕ)) → present x ≡ true → present y ≡ true → present r ≡ true → present (byte_front x y r) ≡ true
+    by none y r p q t = absurd (false≢true p)
+    by (some h) none r p q t = absurd (false≢true q)
+    by (some h) (some l) none p q t = absurd (false≢true t)
+    by (some h) (some l) (some bs) p q t = refl
+
+pub digits-all : (ds : List ℕ) → present (hex_pairs ds) ≡ true → Digits ds
+unfolding hex_pairs
+digits-all [] e k h = absurd (omega arith)
+digits-all (a ∷ []) e k h = absurd (false≢true e)
+digits-all (a ∷ b ∷ ds) e k h = at (λ q j. digits-all ds q j) k h
+  where
+    by : (x y : Option ℕ) (r : Option (List ℕ)) → present (byte_front x y r) ≡ true → (present x ≡ true) × (present y ≡ true) × (present r ≡ true)
+    by none y r q = absurd (false≢true q)
+    by (some h) none r q = absurd (false≢true q)
+    by (some h) (some l) none q = absurd (false≢true q)
+    by (some h) (some l) (some bs) q = (refl, refl, refl)
+
+    parts : (present (hex_digit a) ≡ true) × (present (hex_digit b) ≡ true) × (present (hex_pairs ds) ≡ true)
+    parts = by (hex_digit a) (hex_digit b) (hex_pairs ds) e
+
+    at : (present (hex_pairs ds) ≡ true → Digits ds) → (k : ℕ) → k < length (a ∷ b ∷ ds) → present (hex_digit (get_or (a ∷ b ∷ ds) k 0)) ≡ true
+    at f zero h = parts.0
+    at f (suc zero) h = parts.1
+    at f (suc (suc k)) h = f parts.2 k (omega arith)
+
+-- and so the test of each finds whether there is a line
+pub line-by : (b : Bool) (ds : List ℕ) → (length ds ≡ 0 → ⊥) → length ds ≤ digit_limit → length ds % 2 ≡ 0 →
+    (b ≡ true ↔ EachIndex ds (λ k. is_some (value_of (hex_digit (get_or ds k 0))) ≡ true)) → b ≡ present (line_bytes ds)
+line-by true ds n m e f =
+    sym (ap present (as-pairs ds n m) ∙ all-digits ds e (λ k h. sym (said-some (hex_digit (get_or ds k 0))) ∙ f.0 refl k h))
+line-by false ds n m e f = by (present (hex_pairs ds)) refl ∙ sym (ap present (as-pairs ds n m))
+  where
+    by : (p : Bool) → present (hex_pairs ds) ≡ p → false ≡ present (hex_pairs ds)
+    by false q = sym q
+    by true q = absurd (false≢true (f.1 (λ k h. said-some (hex_digit (get_or ds k 0)) ∙ digits-all ds q k h)))

@@ -1,5 +1,5 @@
 -- A line's bytes, written pair by pair.
-use Prim.Native.Nat.{ℕ, ◌+◌, ◌*◌, ◌≤◌, ◌<◌}
+use Prim.Native.Nat.{ℕ, ◌+◌, ◌*◌, ◌/◌, ◌≤◌, ◌<◌}
 use mathlib.Core.Bool.{Bool, true, false, ◌&&◌}
 use mathlib.Core.List.{List, [], ◌∷◌, ◌++◌, append_assoc, append-nil}
 use mathlib.Core.Option.{Option, none, some}
@@ -12,10 +12,10 @@ use Rattle.model.specs.Limits.{digit_limit}
 use Rattle.model.specs.Tables.{only_if}
 use Rattle.model.specs.Frame.{hex_digit, byte_front, hex_pairs, line_bytes}
 use Rattle.laws.specs.Area.{splice}
-use Rattle.laws.proofs.Area.{length-splice, splice-none, splice-push}
+use Rattle.laws.proofs.Area.{splice-none, splice-push}
 use Rattle.laws.specs.Present.{present}
-use Rattle.hex_lines.specs.Line.{value_of, decoded}
-use Rattle.hex_lines.proofs.Digits.{small, pair-at}
+use Rattle.hex_lines.specs.Line.{decoded}
+use Rattle.hex_lines.proofs.Digits.{digit_of, small, pair-at}
 
 -- a line spells its bytes
 pub line-pairs : (ds : List ℕ) → present (line_bytes ds) ≡ true → (hex_pairs ds ≡ some (decoded ds)) × (line_bytes ds ≡ some (decoded ds))
@@ -40,9 +40,9 @@ one-digit (a ∷ b ∷ l) h = absurd (omega arith)
 
 -- a pair of digits in front is a byte
 record Byte (front : List ℕ) (x y : Option ℕ) (r : Option (List ℕ)) (bs : List ℕ) : Type 0 where
-  high : x ≡ some (value_of x)
-  low : y ≡ some (value_of y)
-  rest : joined (front ++ ((value_of x * 16 + value_of y) ∷ [])) r ≡ some bs
+  high : x ≡ some (digit_of x)
+  low : y ≡ some (digit_of y)
+  rest : joined (front ++ ((digit_of x * 16 + digit_of y) ∷ [])) r ≡ some bs
 
 join-byte : (front : List ℕ) (x y : Option ℕ) (r : Option (List ℕ)) (bs : List ℕ) → joined front (byte_front x y r) ≡ some bs → Byte front x y r bs
 join-byte front none y r bs e = let z : ◌≡◌ {A = ℕ} 0 1 = cc in absurd (omega arith)
@@ -77,14 +77,13 @@ module _ (ds old : List ℕ) (line : present (line_bytes ds) ≡ true) where
 -- what is known of the digits at a place that is passed
 pub record Pair (ds front : List ℕ) (i : ℕ) : Type 0 where
   pub room : i + 2 ≤ length ds
-  pub high : value_of (hex_digit (get_or ds i 0)) < 16
-  pub low : value_of (hex_digit (get_or ds (i + 1) 0)) < 16
-  pub rest : joined (front ++ ((value_of (hex_digit (get_or ds i 0)) * 16 + value_of (hex_digit (get_or ds (i + 1) 0))) ∷ [])) (hex_pairs (drop (i + 2) ds)) ≡ some (decoded ds)
+  pub high-there : present (hex_digit (get_or ds i 0)) ≡ true
+  pub low-there : present (hex_digit (get_or ds (i + 1) 0)) ≡ true
+  pub high : digit_of (hex_digit (get_or ds i 0)) < 16
+  pub low : digit_of (hex_digit (get_or ds (i + 1) 0)) < 16
+  pub rest : joined (front ++ ((digit_of (hex_digit (get_or ds i 0)) * 16 + digit_of (hex_digit (get_or ds (i + 1) 0))) ∷ [])) (hex_pairs (drop (i + 2) ds)) ≡ some (decoded ds)
 
 module _ {ds old new : List ℕ} {i j : ℕ} (room : length ds ≤ 2 * length old) (s : Spelling ds old new i j) where
-  pub spelling-length : length new ≡ length old
-  spelling-length = ap length s.written ∙ length-splice old 0 s.front (omega (arith, s.long, s.twice, s.within))
-
   pub spelling-pair : i < length ds → Pair ds s.front i
   spelling-pair h =
       let two : i + 2 ≤ length ds = elim (ℕ_discrete (i + 1) (length ds)) [
@@ -96,9 +95,9 @@ module _ {ds old new : List ℕ} {i j : ℕ} (room : length ds ≤ 2 * length ol
         | no e ↦ omega arith
       ] in
       let b = join-byte s.front _ _ _ _ (ap (joined s.front) (sym (pair-at ds i two)) ∙ s.goes) in
-      record { room = two; high = small _ _ b.high; low = small _ _ b.low; rest = b.rest }
+      record { room = two; high-there = ap present b.high; low-there = ap present b.low; high = small _ _ b.high; low = small _ _ b.low; rest = b.rest }
 
-  pub spelling-more : i < length ds → (h l : ℕ) → h ≡ value_of (hex_digit (get_or ds i 0)) → l ≡ value_of (hex_digit (get_or ds (i + 1) 0)) →
+  pub spelling-more : i < length ds → (h l : ℕ) → h ≡ digit_of (hex_digit (get_or ds i 0)) → l ≡ digit_of (hex_digit (get_or ds (i + 1) 0)) →
       Spelling ds old (set new j (h * 16 + l)) (i + 2) (j + 1)
   spelling-more here h l h-is l-is =
       let p = spelling-pair here in
@@ -114,10 +113,17 @@ module _ {ds old new : List ℕ} {i j : ℕ} (room : length ds ≤ 2 * length ol
         goes = rw (h-is, l-is) p.rest;
       }
 
-  pub spelling-done : length ds ≤ i → new ≡ splice old 0 (decoded ds)
+  spelling-done : length ds ≤ i → new ≡ splice old 0 (decoded ds)
   unfolding hex_pairs
   spelling-done h =
       let none_left : drop i ds ≡ [] = drop_of_length-le ds {i = i} h in
       let e : some (s.front ++ []) ≡ some (decoded ds) = ap (λ (l : List ℕ). joined s.front (hex_pairs l)) (sym none_left) ∙ s.goes in
       let d : s.front ++ [] ≡ decoded ds = cc in
       s.written ∙ ap (splice old 0) (sym (append-nil s.front) ∙ d)
+
+  -- no pair of digits is left
+  pub spelling-last : length ds / 2 ≤ j → new ≡ splice old 0 (decoded ds)
+  spelling-last h = elim (ℕ_discrete (i + 1) (length ds)) [
+    | yes e ↦ absurd (omega (arith, (spelling-pair (omega arith)).room, s.twice))
+    | no e ↦ spelling-done (omega (arith, s.twice, s.within))
+  ]

@@ -1,12 +1,12 @@
 -- What a digit counts as, and the bytes that digits spell.
-use Rattle.std.specs.Prelude.{ℕ, List, []}
+use Rattle.std.specs.Prelude.{ℕ, List, [], Option as Said, Some, None}
 use Rattle.std.proofs.Math.Option.{Option, none, some}
 use Rattle.model.specs.Frame.{hex_pairs}
 
--- a digit's value, and 16 for a byte that is none
-abbrev pub value_of : Option ℕ → ℕ
-value_of none = 16
-value_of (some v) = v
+-- a digit's value, as code says it
+abbrev pub value_of : Option ℕ → Said ℕ
+value_of none = None
+value_of (some v) = Some v
 
 abbrev pub or_none : Option (List ℕ) → List ℕ
 or_none none = []

@@ -5,11 +5,12 @@ use mathlib.Core.Bool.{Bool, true, false}
 use mathlib.Core.Option.{Option, some}
 use native.Mathlib.Omega.{arith}
 use native.Mathlib.Decide.{ℕ_discrete}
-use Rattle.model.specs.declared.Judgement.TheVariants.{Taken, Faulty}
+use Rattle.std.proofs.Common.{Ok, Err}
+use Rattle.model.specs.declared.Refusal.{Refusal}
 use Rattle.model.specs.Judged.{Judged, good, bad, refuse_if, judgement_of}
 use Rattle.model.specs.Tables.{only_if, and_add, entries}
 
-pub never-good : {A : Type 0} {n : ℕ} {a : A} → bad n ≡ good a → ⊥
+pub never-good : {A : Type 0} {r : Refusal} {a : A} → bad r ≡ good a → ⊥
 never-good p = let z : ◌≡◌ {A = ℕ} 0 1 = cc in omega arith
 
 module _ {A : Type 0} where
@@ -17,29 +18,29 @@ module _ {A : Type 0} where
     pub what : A
     pub is : j ≡ good what
 
-  pub taken-good : (j : Judged A) → Taken ≡ judgement_of j → Good j
+  pub taken-good : (j : Judged A) → Ok tt ≡ judgement_of j → Good j
   taken-good (good a) p = record { what = a; is = refl }
   taken-good (bad n) p = let z : ◌≡◌ {A = ℕ} 0 1 = cc in absurd (omega arith)
 
-  pub faulty-bad : (j : Judged A) (n : ℕ) → Faulty n ≡ judgement_of j → j ≡ bad n
-  faulty-bad (good a) n p = let z : ◌≡◌ {A = ℕ} 0 1 = cc in absurd (omega arith)
-  faulty-bad (bad m) n p = cc
+  pub faulty-bad : (j : Judged A) (r : Refusal) → Err r ≡ judgement_of j → j ≡ bad r
+  faulty-bad (good a) r p = let z : ◌≡◌ {A = ℕ} 0 1 = cc in absurd (omega arith)
+  faulty-bad (bad q) r p = cc
 
 module _ {A E : Type 0} (add : A → Option E → Judged A) (entry : ℕ → Option E) (start : A) where
-  pub first-bad : (k m n : ℕ) → k ≤ m → entries add entry start k ≡ bad n → entries add entry start m ≡ bad n
+  pub first-bad : (k m : ℕ) (r : Refusal) → k ≤ m → entries add entry start k ≡ bad r → entries add entry start m ≡ bad r
   unfolding entries
-  first-bad k zero n h p = let e : k ≡ 0 = omega arith in rw e at p
-  first-bad k (suc m) n h p =
-      elim (ℕ_discrete k (suc m)) [ yes e ↦ rw e at p | no e ↦ rw (first-bad k m n (omega arith) p) refl ]
+  first-bad k zero r h p = let e : k ≡ 0 = omega arith in rw e at p
+  first-bad k (suc m) r h p =
+      elim (ℕ_discrete k (suc m)) [ yes e ↦ rw e at p | no e ↦ rw (first-bad k m r (omega arith) p) refl ]
 
   pub one_more : (k : ℕ) {a : A} → entries add entry start k ≡ good a → entries add entry start (suc k) ≡ add a (entry k)
   unfolding entries
   one_more k p = rw p refl
 
--- where a number is not given, its condition does not hold
-pub taken : {A : Type 0} (b : Bool) (n : ℕ) (j : Judged A) (a : A) → refuse_if b n j ≡ good a → (b ≡ false) × (j ≡ good a)
-taken true n j a p = absurd (never-good p)
-taken false n j a p = (refl, p)
+-- where a refusal is not given, its condition does not hold
+pub taken : {A : Type 0} (b : Bool) (r : Refusal) (j : Judged A) (a : A) → refuse_if b r j ≡ good a → (b ≡ false) × (j ≡ good a)
+taken true r j a p = absurd (never-good p)
+taken false r j a p = (refl, p)
 
 -- what is there under a condition is there, and the condition holds
 pub whole : {A : Type 0} (b : Bool) (o : Option A) {a : A} → only_if b o ≡ some a → (b ≡ true) × (o ≡ some a)

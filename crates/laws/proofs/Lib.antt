@@ -1,3 +1,4 @@
+pub mod Handed
 pub mod Truth
 pub mod Judging
 pub mod Stored

@@ -11,12 +11,9 @@ pub fn put(room: &mut [u8], at: usize, bytes: &[u8]) -> usize
     ensures value { result ≡ at + length bytes.now }
     ensures room_after { room.new ≡ splice room.old at bytes.now }
 {
-    let mut i: usize = 0;
-    while i < bytes.len() {
-        room[at + i] = bytes[i];
-        i += 1;
-    }
-    at + i
+    let end = at + bytes.len();
+    room[at..end].copy_from_slice(bytes);
+    end
 }
 
 // How many digits a number has.
@@ -40,10 +37,10 @@ pub fn put_number(room: &mut [u8], at: usize, n: u64) -> usize
     ensures room_after { room.new ≡ splice room.old at (digits n) }
 {
     if n < 10 {
-        room[at] = 48 + n as u8;
+        room[at] = b'0' + n as u8;
         return at + 1;
     }
     let end = put_number(room, at, n / 10);
-    room[end] = 48 + (n % 10) as u8;
+    room[end] = b'0' + (n % 10) as u8;
     end + 1
 }

@@ -1,35 +1,36 @@
 -- One mark, none, or more, from two walks: to the first mark, and from behind it on.
 -- Assumes nothing.
-use Prim.Native.Nat.{ℕ, suc, ◌+◌, ◌-◌, ◌*◌, ◌≤◌, ◌<◌}
+use Prim.Native.Nat.{ℕ, zero, suc, ◌+◌, ◌-◌, ◌*◌, ◌≤◌, ◌<◌}
 use mathlib.Core.Bool.{Bool, true, false}
 use mathlib.Core.List.{List}
 use mathlib.Core.Path.{◌≡◌, refl, sym, ap, ◌∙◌}
 use native.Mathlib.Omega.{arith}
+use borrow.Author.Tests.{ne_eqb}
 use lib.ListN.{length}
 use Rattle.model.specs.Limits.{flat_words}
 use Rattle.model.specs.Term.{Mark, unmarked, marked, Terms, no_terms, tree, Term, one, join, count, size, mark_count, marks, mark_word}
 use Rattle.model.specs.Step.{some_mark, is_mark}
 use Rattle.terms.specs.Place.{TermAt, RowAt, node_of}
-use Rattle.terms.proofs.Place.{row-tree, term-length}
+use Rattle.std.specs.Prelude.{not, nat_eq}
+use Rattle.marks.specs.declared.Rest.{Rest}
+use Rattle.terms.proofs.Place.{row-tree, term-length, term-row}
 use Rattle.terms.proofs.Rows.{size-join, count_none, length-words}
 use Rattle.terms.proofs.Marks.{marks-join, no-mark, none_found}
-use Rattle.marks.specs.Marks.{from_mark, RestOf, OneAt}
+use Rattle.marks.specs.Marks.{from_mark, RestOf, RestIs, OneAt}
 use Rattle.marks.proofs.First.{from-marks, headed, Headed, some_left}
-
--- a row has a mark exactly where something is left
-pub some-marked : (ws : List ℕ) (at nodes pending : ℕ) (f : Terms) → RestOf ws at nodes pending f → (pending ≡ 0 → ⊥) → true ≡ some_mark is_mark f
-some-marked ws at nodes pending f r h = go (some_mark is_mark f) refl
-  where
-    go : (b : Bool) → some_mark is_mark f ≡ b → true ≡ b
-    go true e = refl
-    go false e = absurd (omega (arith, none_found f e, some_left f (from_mark f) refl (λ z. h (sym r.left.counted ∙ z))))
 
 pub none_left : (ws : List ℕ) (at nodes pending : ℕ) (f : Terms) → RestOf ws at nodes pending f → pending ≡ 0 → marks f ≡ 0
 unfolding marks
 none_left ws at nodes pending f r z = sym (from-marks f) ∙ ap marks (count_none (from_mark f) (r.left.counted ∙ z))
 
-pub none-marked : (ws : List ℕ) (at nodes pending : ℕ) (f : Terms) → RestOf ws at nodes pending f → pending ≡ 0 → false ≡ some_mark is_mark f
-none-marked ws at nodes pending f r z = sym (no-mark is_mark refl f (none_left ws at nodes pending f r z))
+-- a row has a mark exactly where something is left
+pub left-marked : (ws : List ℕ) (at nodes pending : ℕ) (f : Terms) → RestOf ws at nodes pending f → not (nat_eq pending 0) ≡ some_mark is_mark f
+left-marked ws at nodes zero f r = sym (no-mark is_mark refl f (none_left ws at nodes zero f r refl))
+left-marked ws at nodes (suc n) f r = rw (ne_eqb (suc n) 0 (λ z. omega arith)) (go (some_mark is_mark f) refl)
+  where
+    go : (b : Bool) → some_mark is_mark f ≡ b → true ≡ b
+    go true e = refl
+    go false e = absurd (omega (arith, none_found f e, some_left f (from_mark f) refl (λ z. omega (arith, z, r.left.counted))))
 
 -- what is left of a term at its first mark: that node, and the row below and behind it
 pub record AtMark (ws : List ℕ) (at nodes pending : ℕ) (f : Terms) : Type 0 where
@@ -60,8 +61,13 @@ module _ (ws : List ℕ) (at nodes pending : ℕ) (f : Terms) (r : RestOf ws at 
         room = t.room;
       }
 
-  pub at_mark : 0 < pending → AtMark ws at nodes pending f
+  at_mark : 0 < pending → AtMark ws at nodes pending f
   at_mark l = go l (from_mark f) refl
+
+-- so of the term at a place
+pub first_mark : (ws : List ℕ) (at e : ℕ) (t : Term) (r : Rest) → TermAt ws at e t → RestIs ws at 1 r → 0 < r.pending
+    → AtMark ws at r.nodes r.pending (one t)
+first_mark ws at e t r h q l = at_mark ws at r.nodes r.pending (one t) (q (one t) (term-row ws at e t h)) l
 
 module _ (ws : List ℕ) (at nodes pending : ℕ) (l : 0 < pending) where
   abbrev below_at : ℕ

@@ -1,13 +1,12 @@
 -- What the walks over marks answer.
 -- Assumes nothing.
-use Rattle.std.specs.Prelude.{ℕ, ◌+◌, ◌*◌, Bool, List, ◌≡◌}
+use Rattle.std.specs.Prelude.{ℕ, ◌+◌, ◌*◌, Bool, List, ◌≡◌, Option, Some, None}
 use Rattle.model.specs.Limits.{flat_words}
 use Rattle.model.specs.Term.{unmarked, marked, Terms, no_terms, tree, Term, one, join, size, count, marks}
 use Rattle.model.specs.Step.{some_mark, is_mark}
 use Rattle.terms.specs.Place.{TermAt, RowAt}
 use Rattle.marks.specs.declared.Rest.{Rest}
 use Rattle.marks.specs.declared.OneMark.{OneMark}
-use Rattle.marks.specs.declared.OneMark.TheVariants.{Behind, Not}
 
 -- a row of n terms stands at a place
 pub record HasRow (ws : List ℕ) (at n : ℕ) : Type 0 where
@@ -44,9 +43,9 @@ pub record OneAt (ws : List ℕ) (at e nodes end : ℕ) (t : Term) : Type 0 wher
   pub ends : end ≡ e
   pub rest : RestOf ws at nodes (count (from_mark (one t))) (one t)
 
-abbrev pub OneBy : OneMark → List ℕ → ℕ → ℕ → Term → Type 0
-OneBy (Behind nodes end) ws at e t = OneAt ws at e nodes end t
-OneBy Not ws at e t = marks (one t) ≡ 1 → ⊥
+abbrev pub OneBy : Option OneMark → List ℕ → ℕ → ℕ → Term → Type 0
+OneBy (Some m) ws at e t = OneAt ws at e m.nodes m.end t
+OneBy None ws at e t = marks (one t) ≡ 1 → ⊥
 
-abbrev pub OneIs : List ℕ → ℕ → OneMark → Type 0
+abbrev pub OneIs : List ℕ → ℕ → Option OneMark → Type 0
 OneIs ws at r = (e : ℕ) (t : Term) → TermAt ws at e t → OneBy r ws at e t

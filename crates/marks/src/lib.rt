@@ -10,7 +10,7 @@ ghost use Rattle.marks.specs.Marks.{HasRow, RestIs, MarkedIs, OneIs};
 use model::FLAT_WORDS;
 
 // A row of terms from its first mark on: behind how many nodes it stands, and how many terms are still to be read there. None are
-// where the row has no mark.
+// where the row has no mark. (No Option: a row without a mark has its nodes counted too, since they say where a term ends.)
 #[derive(Clone, Copy)]
 struct Rest {
     nodes: usize,
@@ -24,12 +24,13 @@ fn to_mark(words: &[u16], at: usize, count: usize) -> Rest
 {
     let mut nodes: usize = 0;
     let mut pending = count;
+    // No range: how many nodes stand before the mark is known there only.
     while 0 < pending {
         let n = terms::node_at(words, at + FLAT_WORDS * nodes);
         if n.mark != 0 {
             return Rest { nodes, pending };
         }
-        pending = pending - 1 + model::wide(n.count);
+        pending = pending - 1 + usize::from(n.count);
         nodes += 1;
     }
     Rest { nodes, pending }
@@ -40,38 +41,34 @@ pub fn marked(words: &[u16], at: usize, count: usize) -> bool
     requires { HasRow words.now at count }
     ensures { MarkedIs words.now at count result }
 {
-    let rest = to_mark(words, at, count);
-    if rest.pending == 0 {
-        return false;
-    }
-    true
+    to_mark(words, at, count).pending != 0
 }
 
-// The one mark of a term: behind how many of its nodes it stands, and where the term ends. Or the term has none, or more than one.
+// The one mark of a term: behind how many of its nodes it stands, and where the term ends.
 #[derive(Clone, Copy)]
-pub enum OneMark {
-    Behind { nodes: usize, end: usize },
-    Not,
+pub struct OneMark {
+    pub nodes: usize,
+    pub end: usize,
 }
 
-// Whether the term at `at` has exactly one mark. The walk ends at the second.
-pub fn one_mark(words: &[u16], at: usize) -> OneMark
+// The one mark of the term at `at`, if it has exactly one. The walk ends at the second.
+pub fn one_mark(words: &[u16], at: usize) -> Option<OneMark>
     requires { Well words.now at }
     ensures { OneIs words.now at result }
 {
     let first = to_mark(words, at, 1);
     if first.pending == 0 {
-        return OneMark::Not;
+        return None;
     }
     let place = at + FLAT_WORDS * first.nodes;
     let n = terms::node_at(words, place);
     let below = place + FLAT_WORDS;
-    let behind = to_mark(words, below, first.pending - 1 + model::wide(n.count));
+    let behind = to_mark(words, below, first.pending - 1 + usize::from(n.count));
     if behind.pending != 0 {
-        return OneMark::Not;
+        return None;
     }
-    OneMark::Behind {
+    Some(OneMark {
         nodes: first.nodes,
         end: below + FLAT_WORDS * behind.nodes,
-    }
+    })
 }

@@ -2,7 +2,6 @@
 -- Assumes nothing.
 use Prim.Native.Nat.{ℕ, ◌<◌}
 use mathlib.Core.List.{List}
-use mathlib.Core.Bool.{Bool, true, false}
 use mathlib.Core.Path.{◌≡◌, refl, ap, sym, ◌∙◌}
 use native.Mathlib.Omega.{arith}
 use native.Mathlib.Decide.{ℕ_discrete}
@@ -12,20 +11,19 @@ use Rattle.model.specs.declared.Bindings.{Bindings}
 use Rattle.model.specs.Limits.{variable_limit}
 use Rattle.model.specs.Term.{Term, stripped}
 use Rattle.model.specs.Pattern.{Substitution}
-use Rattle.terms.specs.Place.{TermAt, EndsAt, Decides}
+use Rattle.terms.specs.Place.{TermAt, EndsAt}
 use Rattle.terms.proofs.Rows.{one-long}
 use Rattle.terms.proofs.Place.{term-length, term-same}
-use Rattle.matching.specs.declared.Fit.TheVariants.{Fits}
-use Rattle.matching.specs.Match.{fit_if, span_of, with_span, IsBound, TermOf, Valid, Agrees, BindBy}
+use Rattle.std.specs.Prelude.{Some}
+use Rattle.matching.specs.Match.{span_of, with_span, IsBound, TermOf, Valid, Agrees, BindBy}
 
 module _ (ws : List ℕ) (b : Bindings) (x at e : ℕ) (l : x < variable_limit) (v : Valid ws b) (t : Term) (ht : TermAt ws at e t) where
   -- a variable that is bound
-  pub bind-old : (r : Bool) (bd : IsBound b x) → Decides r (stripped (v.terms x l bd).term ≡ stripped t)
-      → BindBy (fit_if r) ws x b (record { fit = fit_if r; at = e; more = 0; bound = b }) e t
-  bind-old true bd d =
+  pub bind-same : (bd : IsBound b x) → stripped (v.terms x l bd).term ≡ stripped t
+      → BindBy (Some (record { at = e; more = 0; bound = b })) ws x b e t
+  bind-same bd d =
       let w = v.terms x l bd in
       record { ends = refl; leaf = refl; valid = v; same = λ σ. (λ ag. (ag, sym d ∙ ag x l bd w.term w.is), λ p. p.0) }
-  bind-old false bd d = λ σ ag p. let w = v.terms x l bd in d (ag x l bd w.term w.is ∙ sym p)
 
   -- one that is not
   with-x : Bindings
@@ -53,7 +51,7 @@ module _ (ws : List ℕ) (b : Bindings) (x at e : ℕ) (l : x < variable_limit) 
   x-agrees σ ag p y (no f) ly bd u hu = ag y ly (rw (off-x y f) at bd) u (rw (off-x y f) at hu)
 
   pub bind-new : (IsBound b x → ⊥)
-      → BindBy Fits ws x b (record { fit = Fits; at = e; more = 0; bound = with_span b x (record { start = at; end = e }) }) e t
+      → BindBy (Some (record { at = e; more = 0; bound = with_span b x (record { start = at; end = e }) })) ws x b e t
   unfolding with-x
   bind-new no-x =
       record {

@@ -2,7 +2,7 @@
 -- Assumes nothing.
 use Prim.Native.Nat.{ℕ, ◌<◌}
 use mathlib.Core.List.{List}
-use mathlib.Core.Path.{◌≡◌, refl, ap, subst}
+use mathlib.Core.Path.{◌≡◌, refl, ap}
 use native.Mathlib.Omega.{arith}
 use native.Mathlib.Decide.{dec_lt}
 use lib.ListN.{replicate, get_or-replicate}
@@ -14,12 +14,11 @@ use Rattle.model.specs.Pattern.{Patterns, Substitution, Instance, fits}
 use Rattle.terms.specs.Place.{TermAt, Well, Decides}
 use Rattle.terms.proofs.Place.{term-row, term-same}
 use Rattle.terms.proofs.Only.{one_answer}
-use Rattle.matching.specs.declared.Fit.{Fit}
-use Rattle.matching.specs.declared.Fit.TheVariants.{Fits, Off}
-use Rattle.matching.specs.declared.SideFit.{SideFit}
+use mathlib.Core.Bool.{Bool, false}
+use Rattle.std.specs.Prelude.{Option, Some, None, is_some}
 use Rattle.rule_table.specs.Slots.{PatternsAt, Side}
 use Rattle.matching.proofs.Matching.{fits-decides}
-use Rattle.matching.specs.Match.{is_fit, span_of, IsBound, TermOf, Valid, Agrees, Rows, SideMeans, MatchBy, MatchIs, FitIs}
+use Rattle.matching.specs.Match.{span_of, IsBound, TermOf, Valid, Agrees, Rows, SideMeans, MatchBy, MatchIs, FitIs}
 
 -- nothing is bound yet
 abbrev pub none_bound : Bindings
@@ -50,11 +49,11 @@ module _ (ws : List ℕ) (b : Bindings) (v : Valid ws b) where
   chosen x (yes l) (no f) l' bd' t ht = absurd (f bd')
   chosen x (no f) d l' bd' t ht = absurd (f l')
 
-  record Some : Type 0 where
+  record Given : Type 0 where
     σ : Substitution
     agrees : Agrees ws b σ
 
-  some-agrees : Some
+  some-agrees : Given
   some-agrees =
       record {
         σ = λ x. choose x (dec_lt x variable_limit) (dec_lt (span_of b x).start (span_of b x).end);
@@ -66,37 +65,34 @@ pub side-rows : (ps ws : List ℕ) (at : ℕ) (s : Side ps) (w : Well ws at) →
 side-rows ps ws at s w =
     record { patterns = s.pattern; terms = one w.term; is_p = s.is; is_t = term-row ws at w.end w.term w.is }
 
-module _ (pl pr ws : List ℕ) (a b : ℕ) (m : SideFit) (first : MatchIs pl 0 1 ws a none_bound m) where
-  pub fit-off : m.fit ≡ Off → FitIs pl pr ws a b Off
-  fit-off ok l l' hl hl' e e' t u ht hu i =
-      subst (λ (o : Fit). MatchBy o ws none_bound m.bound l (one t)) ok (first l (one t) hl (term-row ws a e t ht)) i.σ
-      (record { agrees = none-agrees ws i.σ; makes = i.left })
+module _ (pl pr ws : List ℕ) (a b : ℕ) where
+  -- the left side is not met
+  pub fit-off : MatchIs pl 0 1 ws a none_bound None → FitIs pl pr ws a b false
+  fit-off first l l' hl hl' e e' t u ht hu i =
+      first l (one t) hl (term-row ws a e t ht) i.σ (record { agrees = none-agrees ws i.σ; makes = i.left })
 
-  left-fits : m.fit ≡ Fits → (l : Patterns) (e : ℕ) (t : Term) → PatternsAt pl 0 1 l → TermAt ws a e t
-      → SideMeans ws none_bound m.bound l (one t)
-  left-fits ok l e t hl ht =
-      subst (λ (o : Fit). MatchBy o ws none_bound m.bound l (one t)) ok (first l (one t) hl (term-row ws a e t ht))
+  -- it is, and m is bound
+  module _ (m : Bindings) (first : MatchIs pl 0 1 ws a none_bound (Some m)) where
+    pub left-valid : Side pl → Well ws a → Valid ws m
+    left-valid s w = (first s.pattern (one w.term) s.is (term-row ws a w.end w.term w.is)).valid
 
-  pub left-valid : m.fit ≡ Fits → Side pl → Well ws a → Valid ws m.bound
-  left-valid ok s w = (left-fits ok s.pattern w.end w.term s.is w.is).valid
+    fit-go : (r : Option Bindings) (l l' : Patterns) (t u : Term) → SideMeans ws none_bound m l (one t)
+        → MatchBy r ws m l' (one u) → Decides (is_some r) (Instance l l' (one t) (one u))
+    fit-go (Some k) l l' t u f s =
+        let w = some-agrees ws k s.valid in
+        let y = (s.same w.σ).0 w.agrees in
+        record { σ = w.σ; left = ((f.same w.σ).0 y.agrees).makes; right = y.makes }
+    fit-go None l l' t u f s = λ i.
+        s i.σ
+        (record { agrees = (f.same i.σ).1 (record { agrees = none-agrees ws i.σ; makes = i.left }); makes = i.right })
 
-  fit-go : (k : SideFit) (o : Fit) (l l' : Patterns) (t u : Term) → SideMeans ws none_bound m.bound l (one t)
-      → MatchBy o ws m.bound k.bound l' (one u) → Decides (is_fit o) (Instance l l' (one t) (one u))
-  fit-go k Fits l l' t u f s =
-      let w = some-agrees ws k.bound s.valid in
-      let y = (s.same w.σ).0 w.agrees in
-      record { σ = w.σ; left = ((f.same w.σ).0 y.agrees).makes; right = y.makes }
-  fit-go k Off l l' t u f s = λ i.
-      s i.σ
-      (record { agrees = (f.same i.σ).1 (record { agrees = none-agrees ws i.σ; makes = i.left }); makes = i.right })
-
-  pub fit_on : m.fit ≡ Fits → (k : SideFit) → MatchIs pr 0 1 ws b m.bound k → FitIs pl pr ws a b k.fit
-  fit_on ok k second l l' hl hl' e e' t u ht hu =
-      fit-go k k.fit l l' t u (left-fits ok l e t hl ht) (second l' (one u) hl' (term-row ws b e' u hu))
+    pub fit_on : (r : Option Bindings) → MatchIs pr 0 1 ws b m r → FitIs pl pr ws a b (is_some r)
+    fit_on r second l l' hl hl' e e' t u ht hu =
+        fit-go r l l' t u (first l (one t) hl (term-row ws a e t ht)) (second l' (one u) hl' (term-row ws b e' u hu))
 
 -- the answer is the model's
-pub fit_is : (pl pr ws : List ℕ) (a b : ℕ) (r : Fit) → FitIs pl pr ws a b r → (l l' : Patterns) → PatternsAt pl 0 1 l
+pub fit_is : (pl pr ws : List ℕ) (a b : ℕ) (r : Bool) → FitIs pl pr ws a b r → (l l' : Patterns) → PatternsAt pl 0 1 l
     → PatternsAt pr 0 1 l'
-    → (e e' : ℕ) (t u : Term) → TermAt ws a e t → TermAt ws b e' u → is_fit r ≡ fits l l' (one t) (one u)
+    → (e e' : ℕ) (t u : Term) → TermAt ws a e t → TermAt ws b e' u → r ≡ fits l l' (one t) (one u)
 fit_is pl pr ws a b r h l l' hl hl' e e' t u ht hu =
-    one_answer (is_fit r) (fits l l' (one t) (one u)) _ (h l l' hl hl' e e' t u ht hu) (fits-decides l l' (one t) (one u))
+    one_answer r (fits l l' (one t) (one u)) _ (h l l' hl hl' e e' t u ht hu) (fits-decides l l' (one t) (one u))

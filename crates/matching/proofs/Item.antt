@@ -16,10 +16,9 @@ use Rattle.terms.specs.Place.{node_of, same_head, RowAt}
 use Rattle.terms.proofs.Rows.{strip-join, count-strip, join-inj}
 use Rattle.terms.proofs.Place.{Tree, row-tree}
 use Rattle.terms.proofs.SameWalk.{heads, heads-same}
-use Rattle.matching.specs.declared.Fit.{Fit}
-use Rattle.matching.specs.declared.Fit.TheVariants.{Fits, Off}
+use Rattle.std.specs.Prelude.{Option, Some, None}
 use Rattle.matching.specs.declared.ItemFit.{ItemFit}
-use Rattle.rule_table.specs.declared.Slot.TheVariants.{Variable, Operator, Outside}
+use Rattle.rule_table.specs.declared.Item.TheVariants.{Variable, Operator}
 use Rattle.rule_table.specs.Slots.{item_at, slot_of, PatternsAt}
 use Rattle.rule_table.proofs.Patterns.{join_p}
 use Rattle.matching.specs.Match.{fit_if, Valid, Means, BindBy, BindIs, op_step, ItemMeans, ItemBy, ItemIs}
@@ -53,11 +52,11 @@ app-means σ o k s m k' s' c = (
       rw (p.front, p.back),
 )
 
-module _ (ps : List ℕ) (item : ℕ) (ws : List ℕ) (at : ℕ) (b : Bindings) (r : ItemFit) where
+module _ (ps : List ℕ) (item : ℕ) (ws : List ℕ) (at : ℕ) (b : Bindings) where
   -- a variable's item
-  bind-at : (n x : ℕ) (s : Patterns) (t : Term) (f : Terms) (e : ℕ) (o : Fit) → PatternsAt ps (item + item_words) n s → RowAt ws e n f
-      → BindBy o ws x b r e t → ItemBy o ps item ws b r n (var x s) (put t f)
-  bind-at n x s t f e Fits p h d =
+  bind-at : (n x : ℕ) (s : Patterns) (t : Term) (f : Terms) (e : ℕ) (r : Option ItemFit) → PatternsAt ps (item + item_words) n s
+      → RowAt ws e n f → BindBy r ws x b e t → ItemBy r ps item ws b n (var x s) (put t f)
+  bind-at n x s t f e (Some r) p h d =
       let m : n ≡ r.more + n = omega (arith, d.leaf) in
       record {
         valid = d.valid;
@@ -71,27 +70,27 @@ module _ (ps : List ℕ) (item : ℕ) (ws : List ℕ) (at : ℕ) (b : Bindings) 
               record { agrees = (d.same σ).1 (w.agrees, v.0); makes = v.1 },
         );
       }
-  bind-at n x s t f e Off p h d = λ σ w. d σ w.agrees ((var-means σ x s t f).0 w.makes).0
+  bind-at n x s t f e None p h d = λ σ w. d σ w.agrees ((var-means σ x s t f).0 w.makes).0
 
-  pub bind-step : (x : ℕ) → slot_of (item_at ps item) ≡ Variable x → BindIs ws x at b r → ItemIs ps item ws at b r
+  pub bind-step : (r : Option ItemFit) (x : ℕ) → slot_of (item_at ps item) ≡ Some (Variable x) → BindIs ws x at b r → ItemIs ps item ws at b r
   unfolding count_p count
-  bind-step y i d n no_patterns f hp hf = absurd (omega (arith, hp.counted))
-  bind-step y i d n (app o k s) f hp hf = let p = (row-app ps item n o k s hp).slot in let z : ◌≡◌ {A = ℕ} 0 1 = cc in absurd (omega arith)
-  bind-step y i d n (var x s) no_terms hp hf = absurd (omega (arith, hf.counted))
-  bind-step y i d n (var x s) (tree o m k s') hp hf =
+  bind-step r y i d n no_patterns f hp hf = absurd (omega (arith, hp.counted))
+  bind-step r y i d n (app o k s) f hp hf = let p = (row-app ps item n o k s hp).slot in let z : ◌≡◌ {A = ℕ} 0 1 = cc in absurd (omega arith)
+  bind-step r y i d n (var x s) no_terms hp hf = absurd (omega (arith, hf.counted))
+  bind-step r y i d n (var x s) (tree o m k s') hp hf =
       let v = row-var ps item n x s hp in
       let h = row-tree ws at n o m k s' hf in
       let t : Term = record { op = o; mark = m; kids = k } in
       let p = v.slot in
       let e : y ≡ x = cc in
-      bind-at n x s t s' h.stop r.fit v.behind h.behind (rw e at (d h.stop t h.term))
+      bind-at n x s t s' h.stop r v.behind h.behind (rw e at (d h.stop t h.term))
 
   -- an item is a variable or an operator
-  pub other_step : slot_of (item_at ps item) ≡ Outside → ItemIs ps item ws at b r
+  pub other_step : (r : Option ItemFit) → slot_of (item_at ps item) ≡ None → ItemIs ps item ws at b r
   unfolding count_p
-  other_step i n no_patterns f hp hf = absurd (omega (arith, hp.counted))
-  other_step i n (var x s) f hp hf = let p = (row-var ps item n x s hp).slot in let z : ◌≡◌ {A = ℕ} 0 1 = cc in absurd (omega arith)
-  other_step i n (app o k s) f hp hf = let p = (row-app ps item n o k s hp).slot in let z : ◌≡◌ {A = ℕ} 0 1 = cc in absurd (omega arith)
+  other_step r i n no_patterns f hp hf = absurd (omega (arith, hp.counted))
+  other_step r i n (var x s) f hp hf = let p = (row-var ps item n x s hp).slot in let z : ◌≡◌ {A = ℕ} 0 1 = cc in absurd (omega arith)
+  other_step r i n (app o k s) f hp hf = let p = (row-app ps item n o k s hp).slot in let z : ◌≡◌ {A = ℕ} 0 1 = cc in absurd (omega arith)
 
 -- an operator's item: its node differs
 op-off : (ws : List ℕ) (b : Bindings) (o : ℕ) (k s : Patterns) (o' : ℕ) (m : Mark) (k' s' : Terms) → (o' ≡ o → count k' ≡ count_p k → ⊥)
@@ -105,10 +104,10 @@ op-off ws b o k s o' m k' s' d σ w =
 
 module _ (ps : List ℕ) (item : ℕ) (ws : List ℕ) (at : ℕ) (b : Bindings) (v : Valid ws b) where
   -- or its children follow
-  op-on : (r : Fit) (n o : ℕ) (k s : Patterns) (m : Mark) (k' s' : Terms) → count_p k ≡ count k'
+  op-on : (n o : ℕ) (k s : Patterns) (m : Mark) (k' s' : Terms) → count_p k ≡ count k'
       → PatternsAt ps (item + item_words) (count_p k + n) (join_p k s) → RowAt ws (at + flat_words) (count k' + n) (join k' s')
-      → ItemMeans ps item ws b (record { fit = r; at = at + flat_words; more = count_p k; bound = b }) n (app o k s) (tree o m k' s')
-  op-on r n o k s m k' s' c hp hf =
+      → ItemMeans ps item ws b (record { at = at + flat_words; more = count_p k; bound = b }) n (app o k s) (tree o m k' s')
+  op-on n o k s m k' s' c hp hf =
       record {
         valid = v;
         rows = record { patterns = join_p k s; terms = join k' s'; is_p = hp; is_t = rw (← c) at hf };
@@ -120,7 +119,7 @@ module _ (ps : List ℕ) (item : ℕ) (ws : List ℕ) (at : ℕ) (b : Bindings) 
 
   op-go : (n o : ℕ) (k s : Patterns) (o' : ℕ) (m : Mark) (k' s' : Terms) → Tree ws at n o' m k' s' → App ps item n o k s
       → (r : Bool) → same_head (node_of ws at) o (count_p k) ≡ r
-      → ItemBy (fit_if r) ps item ws b (op_step ws o (count_p k) at b) n (app o k s) (tree o' m k' s')
+      → ItemBy (fit_if r (record { at = at + flat_words; more = count_p k; bound = b })) ps item ws b n (app o k s) (tree o' m k' s')
   op-go n o k s o' m k' s' h w false e =
       op-off ws b o k s o' m k' s'
       (λ p c. false≢true (sym e ∙ heads-same (node_of ws at) o (count_p k) (record { op = h.op ∙ p; count = h.kids ∙ c })))
@@ -128,9 +127,9 @@ module _ (ps : List ℕ) (item : ℕ) (ws : List ℕ) (at : ℕ) (b : Bindings) 
       let d = heads (node_of ws at) o (count_p k) e in
       let p : o' ≡ o = sym h.op ∙ d.op in
       let c : count_p k ≡ count k' = sym d.count ∙ h.kids in
-      rw p (op-on (fit_if (same_head (node_of ws at) o (count_p k))) n o k s m k' s' c w.below h.below)
+      rw p (op-on n o k s m k' s' c w.below h.below)
 
-  pub op-step : (r : ItemFit) (x : OpNo) (y : ℕ) → slot_of (item_at ps item) ≡ Operator x y → r ≡ op_step ws x.0 y at b
+  pub op-step : (r : Option ItemFit) (x : OpNo) (y : ℕ) → slot_of (item_at ps item) ≡ Some (Operator x y) → r ≡ op_step ws x.0 y at b
       → ItemIs ps item ws at b r
   unfolding count_p count
   op-step r x y i e n no_patterns f hp hf = absurd (omega (arith, hp.counted))

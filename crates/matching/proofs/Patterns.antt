@@ -3,6 +3,7 @@
 use Prim.Native.Nat.{ℕ, suc, ◌+◌, ◌≤◌}
 use mathlib.Core.List.{List, ◌∷◌, ◌++◌, append_assoc}
 use mathlib.Core.Option.{Option, some}
+use Rattle.std.specs.Prelude.{Some}
 use mathlib.Core.Path.{◌≡◌, refl, ap, ◌∙◌}
 use native.Mathlib.Nat.{zero-add, suc-add}
 use native.Mathlib.Omega.{arith}
@@ -12,7 +13,7 @@ use Rattle.model.specs.Limits.{child_limit, variable_limit}
 use Rattle.model.specs.Term.{count, join}
 use Rattle.model.specs.Pattern.{Item, variable, operator, Patterns, no_patterns, var, app, count_p, items, NarrowP, Substitution, inst}
 use Rattle.model.specs.Tables.{item_words, item_front, items_from}
-use Rattle.rule_table.specs.declared.Slot.TheVariants.{Variable, Operator}
+use Rattle.rule_table.specs.declared.Item.TheVariants.{Variable, Operator}
 use Rattle.rule_table.specs.Slots.{item_at, slot_of, PatternsAt}
 use Rattle.rule_table.proofs.Patterns.{join_p}
 use Rattle.rule_table.proofs.Sides.{first-item}
@@ -64,7 +65,7 @@ first i r j is e =
 -- a row that begins with a variable
 pub record Var (ps : List ℕ) (item n x : ℕ) (s : Patterns) : Type 0 where
   pub room : item + item_words ≤ length ps
-  pub slot : slot_of (item_at ps item) ≡ Variable x
+  pub slot : slot_of (item_at ps item) ≡ Some (Variable x)
   pub behind : PatternsAt ps (item + item_words) n s
 
 pub row-var : (ps : List ℕ) (item n x : ℕ) (s : Patterns) → PatternsAt ps item (suc n) (var x s) → Var ps item n x s
@@ -85,7 +86,7 @@ row-var ps item n x s h =
 -- a row that begins with an operator: its children and the rest follow
 pub record App (ps : List ℕ) (item n o : ℕ) (k s : Patterns) : Type 0 where
   pub room : item + item_words ≤ length ps
-  pub slot : slot_of (item_at ps item) ≡ Operator (record { 0 = o }) (count_p k)
+  pub slot : slot_of (item_at ps item) ≡ Some (Operator (record { 0 = o }) (count_p k))
   pub below : PatternsAt ps (item + item_words) (count_p k + n) (join_p k s)
 
 pub row-app : (ps : List ℕ) (item n o : ℕ) (k s : Patterns) → PatternsAt ps item (suc n) (app o k s) → App ps item n o k s

@@ -1,6 +1,6 @@
 -- What is bound, and what a match says of every substitution.
 -- Assumes nothing.
-use Rattle.std.specs.Prelude.{ℕ, suc, ◌+◌, ◌<◌, List, Bool, true, false, ◌≡◌, ◌↔◌, length, get_or, set}
+use Rattle.std.specs.Prelude.{ℕ, suc, ◌+◌, ◌<◌, List, Bool, true, false, ◌≡◌, ◌↔◌, Option, Some, None, length, get_or, set}
 use Rattle.model.specs.declared.Span.{Span}
 use Rattle.model.specs.declared.Bindings.{Bindings}
 use Rattle.model.specs.Limits.{variable_limit, flat_words}
@@ -9,19 +9,7 @@ use Rattle.model.specs.Term.{Terms, Term, one, strip, stripped}
 use Rattle.model.specs.Pattern.{Patterns, Substitution, inst, Instance}
 use Rattle.terms.specs.Place.{node_of, same_head, TermAt, RowAt, EndsAt, Decides}
 use Rattle.rule_table.specs.Slots.{PatternsAt}
-use Rattle.matching.specs.declared.Fit.{Fit}
-use Rattle.matching.specs.declared.Fit.TheVariants.{Fits, Off}
 use Rattle.matching.specs.declared.ItemFit.{ItemFit}
-use Rattle.matching.specs.declared.SideFit.{SideFit}
-
--- a test that was made, as an answer; and whether an answer is that it fits
-abbrev pub fit_if : Bool → Fit
-fit_if true = Fits
-fit_if false = Off
-
-abbrev pub is_fit : Fit → Bool
-is_fit Fits = true
-is_fit Off = false
 
 -- "each bound to one subterm's start and end"; an empty span is not bound
 abbrev pub span_of : Bindings → ℕ → Span
@@ -70,16 +58,20 @@ pub record BindMeans (ws : List ℕ) (x : ℕ) (b : Bindings) (r : ItemFit) (e :
   pub valid : Valid ws r.bound
   pub same : (σ : Substitution) → Agrees ws r.bound σ ↔ (Agrees ws b σ × (stripped t ≡ σ x))
 
-abbrev pub BindBy : Fit → List ℕ → ℕ → Bindings → ItemFit → ℕ → Term → Type 0
-BindBy Fits ws x b r e t = BindMeans ws x b r e t
-BindBy Off ws x b r e t = (σ : Substitution) → Agrees ws b σ → stripped t ≡ σ x → ⊥
+abbrev pub BindBy : Option ItemFit → List ℕ → ℕ → Bindings → ℕ → Term → Type 0
+BindBy (Some r) ws x b e t = BindMeans ws x b r e t
+BindBy None ws x b e t = (σ : Substitution) → Agrees ws b σ → stripped t ≡ σ x → ⊥
 
-abbrev pub BindIs : List ℕ → ℕ → ℕ → Bindings → ItemFit → Type 0
-BindIs ws x at b r = (e : ℕ) (t : Term) → TermAt ws at e t → BindBy r.fit ws x b r e t
+abbrev pub BindIs : List ℕ → ℕ → ℕ → Bindings → Option ItemFit → Type 0
+BindIs ws x at b r = (e : ℕ) (t : Term) → TermAt ws at e t → BindBy r ws x b e t
 
 -- an operator o with n children that met the node at `at`: they agree, and the children follow
-abbrev pub op_step : List ℕ → ℕ → ℕ → ℕ → Bindings → ItemFit
-op_step ws o n at b = record { fit = fit_if (same_head (node_of ws at) o n); at = at + flat_words; more = n; bound = b }
+abbrev pub fit_if : Bool → ItemFit → Option ItemFit
+fit_if true r = Some r
+fit_if false r = None
+
+abbrev pub op_step : List ℕ → ℕ → ℕ → ℕ → Bindings → Option ItemFit
+op_step ws o n at b = fit_if (same_head (node_of ws at) o n) (record { at = at + flat_words; more = n; bound = b })
 
 -- one item of rows q and f: what is left to match is met by the same substitutions
 pub record ItemMeans (ps : List ℕ) (item : ℕ) (ws : List ℕ) (b : Bindings) (r : ItemFit) (n : ℕ) (q : Patterns) (f : Terms) : Type 0 where
@@ -87,14 +79,14 @@ pub record ItemMeans (ps : List ℕ) (item : ℕ) (ws : List ℕ) (b : Bindings)
   pub rows : Rows ps (item + item_words) (r.more + n) ws r.at
   pub same : (σ : Substitution) → Means ws r.bound rows.terms rows.patterns σ ↔ Means ws b f q σ
 
-abbrev pub ItemBy : Fit → List ℕ → ℕ → List ℕ → Bindings → ItemFit → ℕ → Patterns → Terms → Type 0
-ItemBy Fits ps item ws b r n q f = ItemMeans ps item ws b r n q f
-ItemBy Off ps item ws b r n q f = (σ : Substitution) → Means ws b f q σ → ⊥
+abbrev pub ItemBy : Option ItemFit → List ℕ → ℕ → List ℕ → Bindings → ℕ → Patterns → Terms → Type 0
+ItemBy (Some r) ps item ws b n q f = ItemMeans ps item ws b r n q f
+ItemBy None ps item ws b n q f = (σ : Substitution) → Means ws b f q σ → ⊥
 
-abbrev pub ItemIs : List ℕ → ℕ → List ℕ → ℕ → Bindings → ItemFit → Type 0
+abbrev pub ItemIs : List ℕ → ℕ → List ℕ → ℕ → Bindings → Option ItemFit → Type 0
 ItemIs ps item ws at b r =
     (n : ℕ) (q : Patterns) (f : Terms) → PatternsAt ps item (suc n) q → RowAt ws at (suc n) f
-    → ItemBy r.fit ps item ws b r n q f
+    → ItemBy r ps item ws b n q f
 
 -- the whole: the substitutions that agree with what is bound then are those that agreed before and make the patterns the
 -- terms; or there are none
@@ -102,16 +94,16 @@ pub record SideMeans (ws : List ℕ) (b b' : Bindings) (q : Patterns) (f : Terms
   pub valid : Valid ws b'
   pub same : (σ : Substitution) → Agrees ws b' σ ↔ Means ws b f q σ
 
-abbrev pub MatchBy : Fit → List ℕ → Bindings → Bindings → Patterns → Terms → Type 0
-MatchBy Fits ws b b' q f = SideMeans ws b b' q f
-MatchBy Off ws b b' q f = (σ : Substitution) → Means ws b f q σ → ⊥
+abbrev pub MatchBy : Option Bindings → List ℕ → Bindings → Patterns → Terms → Type 0
+MatchBy (Some b') ws b q f = SideMeans ws b b' q f
+MatchBy None ws b q f = (σ : Substitution) → Means ws b f q σ → ⊥
 
-abbrev pub MatchIs : List ℕ → ℕ → ℕ → List ℕ → ℕ → Bindings → SideFit → Type 0
+abbrev pub MatchIs : List ℕ → ℕ → ℕ → List ℕ → ℕ → Bindings → Option Bindings → Type 0
 MatchIs ps item n ws at b r =
-    (q : Patterns) (f : Terms) → PatternsAt ps item n q → RowAt ws at n f → MatchBy r.fit ws b r.bound q f
+    (q : Patterns) (f : Terms) → PatternsAt ps item n q → RowAt ws at n f → MatchBy r ws b q f
 
 -- r says whether the terms at a and b are an instance of the rule whose sides stand in pl and pr
-abbrev pub FitIs : List ℕ → List ℕ → List ℕ → ℕ → ℕ → Fit → Type 0
+abbrev pub FitIs : List ℕ → List ℕ → List ℕ → ℕ → ℕ → Bool → Type 0
 FitIs pl pr ws a b r =
     (l l' : Patterns) → PatternsAt pl 0 1 l → PatternsAt pr 0 1 l'
-    → (e e' : ℕ) (t u : Term) → TermAt ws a e t → TermAt ws b e' u → Decides (is_fit r) (Instance l l' (one t) (one u))
+    → (e e' : ℕ) (t u : Term) → TermAt ws a e t → TermAt ws b e' u → Decides r (Instance l l' (one t) (one u))

@@ -6,39 +6,17 @@ ghost use Rattle.std.specs.Prelude.{◌≡◌, ◌+◌, ◌≤◌, ◌<◌, leng
 ghost use Rattle.model.specs.Limits.{variable_limit, flat_words};
 ghost use Rattle.terms.specs.Place.{Well};
 ghost use Rattle.rule_table.specs.Slots.{Side};
-ghost use Rattle.matching.specs.Match.{fit_if, span_of, with_span, Valid, Rows, SomeRows, BindIs, op_step, ItemIs, MatchIs, FitIs};
+ghost use Rattle.matching.specs.Match.{span_of, with_span, Valid, Rows, SomeRows, BindIs, op_step, ItemIs, MatchIs, FitIs};
 
 use model::{Bindings, FLAT_WORDS, ITEM_WORDS, OpNo, Span, VARIABLE_LIMIT};
-use rule_table::Slot;
+use rule_table::Item;
 
-// Whether what was to fit does.
-#[derive(Clone, Copy)]
-pub enum Fit {
-    Fits,
-    Off,
-}
-
-// What became of one item: where the terms go on, how many terms the item adds to those still to be matched, and what is bound.
+// Behind an item that fits: where the terms go on, how many terms the item adds to those still to be matched, and what is bound.
 #[derive(Clone, Copy)]
 struct ItemFit {
-    fit: Fit,
     at: usize,
     more: usize,
     bound: Bindings,
-}
-
-// What became of a side, and what is bound.
-#[derive(Clone, Copy)]
-struct SideFit {
-    fit: Fit,
-    bound: Bindings,
-}
-
-// Whether a test that was made fits.
-fn fit_if(ok: bool) -> Fit
-    ensures { result ≡ fit_if ok }
-{
-    if ok { Fit::Fits } else { Fit::Off }
 }
 
 // What the variable `x` is bound to.
@@ -60,7 +38,7 @@ fn with_span(b: Bindings, x: usize, s: Span) -> Bindings
 }
 
 // A variable meets the term at `at`: it is bound to it, or what it is bound to is compared with it, marks aside.
-fn bind(words: &[u16], x: usize, at: usize, b: Bindings) -> ItemFit
+fn bind(words: &[u16], x: usize, at: usize, b: Bindings) -> Option<ItemFit>
     requires x_lt_variable_limit { x < variable_limit }
     requires valid { Valid words.now b }
     requires well { Well words.now at }
@@ -71,56 +49,52 @@ fn bind(words: &[u16], x: usize, at: usize, b: Bindings) -> ItemFit
     let from = s.start;
     if from < s.end {
         let same = terms::same_term(words, from, at);
-        return ItemFit {
-            fit: fit_if(same),
+        if !same {
+            return None;
+        }
+        return Some(ItemFit {
             at: e,
             more: 0,
             bound: b,
-        };
+        });
     }
-    ItemFit {
-        fit: Fit::Fits,
+    Some(ItemFit {
         at: e,
         more: 0,
         bound: with_span(b, x, Span { start: at, end: e }),
-    }
+    })
 }
 
 // An operator with its child count meets the node at `at`; its children follow.
-fn op_step(op: OpNo, count: u16, words: &[u16], at: usize, b: Bindings) -> ItemFit
+fn op_step(op: OpNo, count: u16, words: &[u16], at: usize, b: Bindings) -> Option<ItemFit>
     requires { at + flat_words ≤ length words.now }
     ensures { result ≡ op_step words.now op.0 count at b }
 {
     let n = terms::node_at(words, at);
-    ItemFit {
-        fit: fit_if(terms::same_head(n, op, count)),
-        at: at + FLAT_WORDS,
-        more: model::wide(count),
-        bound: b,
+    if !terms::same_head(n, op, count) {
+        return None;
     }
+    Some(ItemFit {
+        at: at + FLAT_WORDS,
+        more: usize::from(count),
+        bound: b,
+    })
 }
 
-// One item meets the term at `at`.
-fn item_step(side: &[u16], item: usize, words: &[u16], at: usize, b: Bindings) -> ItemFit
+// One item meets the term at `at`. The slots hold patterns, so that a slot which holds no item is never met.
+fn item_step(side: &[u16], item: usize, words: &[u16], at: usize, b: Bindings) -> Option<ItemFit>
     requires valid { Valid words.now b }
     requires some_rows { SomeRows side.now item words.now at }
     ensures { ItemIs side.now item words.now at b result }
 {
-    let slot = rule_table::slot_at(side, item);
-    match slot {
-        Slot::Variable(x) => bind(words, x, at, b),
-        Slot::Operator(op, count) => op_step(op, count, words, at, b),
-        // The slots hold patterns, so that this is never reached.
-        Slot::Outside => ItemFit {
-            fit: Fit::Off,
-            at: at,
-            more: 0,
-            bound: b,
-        },
+    let held = rule_table::slot_at(side, item)?;
+    match held {
+        Item::Variable(x) => bind(words, x, at, b),
+        Item::Operator(op, count) => op_step(op, count, words, at, b),
     }
 }
 
-// Matches `pending` patterns from the item on with as many terms from `at` on, over what is bound already.
+// Matches `pending` patterns from the item on with as many terms from `at` on, over what is bound already: what is bound then.
 fn match_side(
     side: &[u16],
     item: usize,
@@ -128,39 +102,28 @@ fn match_side(
     words: &[u16],
     at: usize,
     b: Bindings,
-) -> SideFit
+) -> Option<Bindings>
     requires valid { Valid words.now b }
     requires rows { Rows side.now item pending words.now at }
     ensures { MatchIs side.now item pending words.now at b result }
 {
     if pending == 0 {
-        return SideFit {
-            fit: Fit::Fits,
-            bound: b,
-        };
+        return Some(b);
     }
-    let s = item_step(side, item, words, at, b);
-    let fit = s.fit;
-    let bound = s.bound;
-    if let Fit::Off = fit {
-        return SideFit {
-            fit: Fit::Off,
-            bound: bound,
-        };
-    }
+    let s = item_step(side, item, words, at, b)?;
     match_side(
         side,
         item + ITEM_WORDS,
         pending - 1 + s.more,
         words,
         s.at,
-        bound,
+        s.bound,
     )
 }
 
 // Whether some substitution makes the left side the term at `a` and the right side the term at `b`. The left side is always
 // matched first, so that a variable that stands only there is bound; a backward step exchanges the terms, not the sides.
-pub fn rule_fits(left: &[u16], right: &[u16], words: &[u16], a: usize, b: usize) -> Fit
+pub fn rule_fits(left: &[u16], right: &[u16], words: &[u16], a: usize, b: usize) -> bool
     requires side { Side left.now }
     requires side_2 { Side right.now }
     requires well { Well words.now a }
@@ -170,11 +133,9 @@ pub fn rule_fits(left: &[u16], right: &[u16], words: &[u16], a: usize, b: usize)
     let nothing = Span { start: 0, end: 0 };
     let spans = [nothing; VARIABLE_LIMIT];
     let l = match_side(left, 0, 1, words, a, Bindings { spans: spans });
-    let fit = l.fit;
-    if let Fit::Off = fit {
-        return Fit::Off;
-    }
-    let bound = l.bound;
+    let Some(bound) = l else {
+        return false;
+    };
     let r = match_side(right, 0, 1, words, b, bound);
-    r.fit
+    r.is_some()
 }

@@ -1,23 +1,21 @@
 -- What no line of input shows, computed: limits at their last good number and their first bad one, lent areas and rooms, and reports.
-use Rattle.std.specs.Prelude.{ℕ, zero, suc, ◌+◌, ◌*◌, Bool, true, false, List, [], ◌∷◌, ◌++◌, ◌≡◌, refl, ltb, replicate, take}
+use Rattle.std.specs.Prelude.{ℕ, zero, suc, ◌+◌, ◌*◌, Bool, true, false, List, [], ◌∷◌, ◌++◌, ◌≡◌, refl, ltb, replicate, take, Ok, Err}
 use Rattle.std.proofs.Math.Bool.{or-true}
 use Rattle.std.proofs.Math.Option.{Option, none, some}
 use Rattle.std.proofs.Common.{ap}
-use Rattle.model.specs.declared.Answer.TheVariants.{Written, Refused}
 use Rattle.model.specs.declared.Connection.{Connection}
 use Rattle.model.specs.declared.Direction.TheVariants.{Forward}
 use Rattle.model.specs.declared.Justification.{Justification}
 use Rattle.model.specs.declared.Justification.TheVariants.{Rule as by_rule, Congruence}
-use Rattle.model.specs.declared.Measured.TheVariants.{Distance, Unmeasured}
-use Rattle.model.specs.declared.Printed.TheVariants.{Bytes, NoText}
-use Rattle.model.specs.declared.Verdict.TheVariants.{Accepted, Rejected}
+use Rattle.model.specs.declared.Refusal.TheVariants.{NotJoined, TooFar, NoRoom, NoWords, NoTerms, NotOneMark, NoStep, TooLong}
+use Rattle.model.specs.Refusal.{number}
 use Rattle.model.specs.Judged.{Judged, judgement_of, number_of}
 use Rattle.model.specs.Term.{count}
 use Rattle.model.specs.Pattern.{variable, operator, no_patterns, app}
 use Rattle.model.specs.Rule.{Rule, side, add_rule}
-use Rattle.model.specs.Verdict.{verdict, report_of}
+use Rattle.model.specs.Verdict.{rejection, verdict, report_of}
 use Rattle.model.specs.Node.{Node, add_node}
-use Rattle.model.specs.Query.{Tables, no_tables, measure, answer, written_if, area_after, measure_report, answer_report}
+use Rattle.model.specs.Query.{Tables, no_tables, measure, answer, written, written_if, area_after, measure_report, answer_report}
 use Rattle.model.specs.Text.{bytes, term_text, room_after, text_report}
 use Rattle.model.specs.Frame.{words_kind, line_bytes}
 use Rattle.model.specs.Tables.{judge_tables, area_of}
@@ -65,42 +63,42 @@ sums =
     }
 
 -- 10: a distance of 16,383 is told, one of 16,384 is refused for any area
-near : measure sums 30 31 ≡ Distance 16383
+near : measure sums 30 31 ≡ Ok 16383
 unfolding sums measure
 near = refl
 
-far : measure (tower 14) 28 29 ≡ Unmeasured 10
+far : measure (tower 14) 28 29 ≡ Err TooFar
 unfolding tower measure
 far = refl
 
-far-for-any-area : (area : ℕ) → answer (tower 14) area 28 29 ≡ Refused 10
+far-for-any-area : (area : ℕ) → answer (tower 14) area 28 29 ≡ Err TooFar
 unfolding tower answer
 far-for-any-area area = refl
 
 -- 11: towers of levels 12 and 13 are near enough, and their words are past the limit for any area: 2 ^ k + 1 terms of 2 ^ (k + 1) - 1
 -- nodes, four words each
-near-12 : measure (tower 12) 24 25 ≡ Distance 4096
+near-12 : measure (tower 12) 24 25 ≡ Ok 4096
 unfolding tower measure
 near-12 = refl
 
-near-13 : measure (tower 13) 26 27 ≡ Distance 8192
+near-13 : measure (tower 13) 26 27 ≡ Ok 8192
 unfolding tower measure
 near-13 = refl
 
-large-12 : (area : ℕ) → answer (tower 12) area 24 25 ≡ Refused 11
+large-12 : (area : ℕ) → answer (tower 12) area 24 25 ≡ Err NoRoom
 unfolding tower answer
 large-12 area = ap (λ (b : Bool). written_if b 4096 134234108) (or-true (ltb area 134234108))
 
-large-13 : (area : ℕ) → answer (tower 13) area 26 27 ≡ Refused 11
+large-13 : (area : ℕ) → answer (tower 13) area 26 27 ≡ Err NoRoom
 unfolding tower answer
 large-13 area = ap (λ (b : Bool). written_if b 8192 536903676) (or-true (ltb area 536903676))
 
 -- 11: an area that the words fill is enough, one word less is not
-fits : answer (tower 7) 131580 14 15 ≡ Written 128 131580
+fits : answer (tower 7) 131580 14 15 ≡ Ok (written 128 131580)
 unfolding tower answer
 fits = refl
 
-short : answer (tower 7) 131579 14 15 ≡ Refused 11
+short : answer (tower 7) 131579 14 15 ≡ Err NoRoom
 unfolding tower answer
 short = refl
 
@@ -115,18 +113,18 @@ topped k =
     }
 
 -- 11: as many words as the limit are written in a larger area, more are not
-many-words : answer (topped 17) 2000000 36 36 ≡ Written 0 1048576
+many-words : answer (topped 17) 2000000 36 36 ≡ Ok (written 0 1048576)
 unfolding topped answer
 many-words = refl
 
-too-many-words : answer (topped 17) 2000000 37 37 ≡ Refused 11
+too-many-words : answer (topped 17) 2000000 37 37 ≡ Err NoRoom
 unfolding topped answer
 too-many-words = refl
 
 -- The program's area holds 32,768 words of a query's proof, and no more.
 abbrev printed_by : Turn → List ℕ
 printed_by (go out s) = out
-printed_by (stop n) = []
+printed_by (stop r) = []
 
 abbrev holding : Tables → List ℕ → State
 holding t ws = record { kind = words_kind; tables = t; open-words = ws }
@@ -142,7 +140,7 @@ overflows = refl
 -- An offered proof may fill the area; "an offered proof that outgrows the area" is 11, and neither is open then.
 abbrev stop_of : Turn → ℕ
 stop_of (go out s) = 0
-stop_of (stop n) = n
+stop_of (stop r) = number r
 
 offered-fills : stop_of (opened (holding no_tables (replicate 32764 0)) (some (replicate 4 0))) ≡ 0
 offered-fills = refl
@@ -208,15 +206,15 @@ leaves : ℕ → List ℕ
 leaves zero = []
 leaves (suc n) = 1 ∷ 0 ∷ 0 ∷ 0 ∷ leaves n
 
-terms-enough : verdict [] (leaves 16384) ≡ Rejected 15 1
+terms-enough : verdict [] (leaves 16384) ≡ Err (rejection NotOneMark 1)
 unfolding leaves verdict
 terms-enough = refl
 
-terms-too-many : verdict [] (leaves 16385) ≡ Rejected 19 0
+terms-too-many : verdict [] (leaves 16385) ≡ Err (rejection TooLong 0)
 unfolding leaves verdict
 terms-too-many = refl
 
-terms-cut : verdict [] (leaves 16384 ++ (3 ∷ 1 ∷ 0 ∷ 0 ∷ [])) ≡ Rejected 13 0
+terms-cut : verdict [] (leaves 16384 ++ (3 ∷ 1 ∷ 0 ∷ 0 ∷ [])) ≡ Err (rejection NoTerms 0)
 unfolding leaves verdict
 terms-cut = refl
 
@@ -243,19 +241,19 @@ unfolding judge_tables
 area-bad = refl
 
 -- The text of one term: an exact room is enough, a room one byte short is 11, no words are 12, a second term is 13; and the room.
-room-exact : term_text (leaves 1) 2 ≡ Bytes 2
+room-exact : term_text (leaves 1) 2 ≡ Ok 2
 unfolding leaves term_text
 room-exact = refl
 
-room-short : term_text (leaves 1) 1 ≡ NoText 11
+room-short : term_text (leaves 1) 1 ≡ Err NoRoom
 unfolding leaves term_text
 room-short = refl
 
-no_words : term_text [] 9 ≡ NoText 12
+no_words : term_text [] 9 ≡ Err NoWords
 unfolding term_text
 no_words = refl
 
-second-term : term_text (leaves 2) 9 ≡ NoText 13
+second-term : term_text (leaves 2) 9 ≡ Err NoTerms
 unfolding leaves term_text
 second-term = refl
 
@@ -268,26 +266,26 @@ unfolding leaves room_after
 room-refused = refl
 
 -- document 01's number and values for each case of an answer
-written-report : answer_report (Written 1 16) ≡ record { number = 0; distance = 1; written = 16 }
+written-report : answer_report (Ok (written 1 16)) ≡ record { number = 0; distance = 1; written = 16 }
 written-report = refl
 
-refused-report : answer_report (Refused 9) ≡ record { number = 9; distance = 0; written = 0 }
+refused-report : answer_report (Err NotJoined) ≡ record { number = 9; distance = 0; written = 0 }
 refused-report = refl
 
-distance-report : measure_report (Distance 3) ≡ record { number = 0; distance = 3 }
+distance-report : measure_report (Ok 3) ≡ record { number = 0; distance = 3 }
 distance-report = refl
 
-unmeasured-report : measure_report (Unmeasured 9) ≡ record { number = 9; distance = 0 }
+unmeasured-report : measure_report (Err NotJoined) ≡ record { number = 9; distance = 0 }
 unmeasured-report = refl
 
-accepted-report : report_of (Accepted 2) ≡ record { number = 0; value = 2 }
+accepted-report : report_of (Ok 2) ≡ record { number = 0; value = 2 }
 accepted-report = refl
 
-rejected-report : report_of (Rejected 17 1) ≡ record { number = 17; value = 1 }
+rejected-report : report_of (Err (rejection NoStep 1)) ≡ record { number = 17; value = 1 }
 rejected-report = refl
 
-text-report : text_report (Bytes 2) ≡ record { number = 0; written = 2 }
+text-report : text_report (Ok 2) ≡ record { number = 0; written = 2 }
 text-report = refl
 
-no-text-report : text_report (NoText 13) ≡ record { number = 13; written = 0 }
+no-text-report : text_report (Err NoTerms) ≡ record { number = 13; written = 0 }
 no-text-report = refl

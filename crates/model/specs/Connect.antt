@@ -4,6 +4,7 @@ use Rattle.std.proofs.Math.Option.{Option, none, some}
 use Rattle.model.specs.declared.Connection.{Connection}
 use Rattle.model.specs.declared.Justification.{Justification}
 use Rattle.model.specs.declared.Justification.TheVariants.{Rule as by_rule, Congruence}
+use Rattle.model.specs.declared.Refusal.TheVariants.{NoEntry, EndsUnfit, NoSupport}
 use Rattle.model.specs.Judged.{Judged, good, bad, refuse_if}
 use Rattle.model.specs.Term.{same_op}
 use Rattle.model.specs.Node.{Node, op_of, kids_of}
@@ -32,8 +33,8 @@ supported ns cs Congruence a b = same_op (op_of ns a) (op_of ns b) && pairs_join
 -- An entry that is not there is one of wrong length or with a field outside its set: 2. Then 6, and "congruence without support" is 7.
 unfoldable pub add_connection : List Node → List Connection → Option Connection → Judged (List Connection)
 unfolding misplaced supported
-add_connection ns cs none = bad 2
+add_connection ns cs none = bad NoEntry
 add_connection ns cs (some c) =
-    refuse_if (misplaced ns cs c) 6
-    (refuse_if (not (supported ns cs c.why (cur c) (nxt c))) 7
+    refuse_if (misplaced ns cs c) EndsUnfit
+    (refuse_if (not (supported ns cs c.why (cur c) (nxt c))) NoSupport
     (good (c ∷ cs)))

@@ -1,4 +1,5 @@
 pub mod Limits
+pub mod Refusal
 pub mod Judged
 pub mod Term
 pub mod Pattern

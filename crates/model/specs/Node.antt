@@ -1,6 +1,7 @@
 -- The node table, how its entries are judged (2, 3, 4), and the term of a node.
 use Rattle.std.specs.Prelude.{ℕ, zero, suc, List, [], ◌∷◌, ◌++◌, Bool, true, not, ◌&&◌, leb, ltb, length, get_or}
 use Rattle.std.proofs.Math.Option.{Option, none, some}
+use Rattle.model.specs.declared.Refusal.TheVariants.{NoEntry, TableFull, ChildNotBelow}
 use Rattle.model.specs.Limits.{node_limit}
 use Rattle.model.specs.Judged.{Judged, good, bad, refuse_if}
 use Rattle.model.specs.Term.{unmarked, Terms, no_terms, Term, put}
@@ -30,10 +31,10 @@ all_below n (k ∷ ks) = ltb k n && all_below n ks
 -- An entry that is not there is one of wrong length or with a field outside its set: 2. Then "node 2,049" is 3, and 4.
 unfoldable pub add_node : List Node → Option Node → Judged (List Node)
 unfolding all_below
-add_node ns none = bad 2
+add_node ns none = bad NoEntry
 add_node ns (some x) =
-    refuse_if (leb node_limit (length ns)) 3
-    (refuse_if (not (all_below (length ns) x.kids)) 4
+    refuse_if (leb node_limit (length ns)) TableFull
+    (refuse_if (not (all_below (length ns) x.kids)) ChildNotBelow
     (good (ns ++ (x ∷ []))))
 
 -- "Its term is the tree read through its children": these have lower numbers, so that n + 1 levels are enough for node n

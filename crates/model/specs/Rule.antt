@@ -1,6 +1,7 @@
 -- The rule table, and how its entries are judged (2, 3, 5).
 use Rattle.std.specs.Prelude.{ℕ, List, [], ◌∷◌, Bool, true, false, not, ◌&&◌, ◌||◌, leb, eqb, length}
 use Rattle.std.proofs.Math.Option.{Option, none, some}
+use Rattle.model.specs.declared.Refusal.TheVariants.{NoEntry, TableFull, RuleUnfit}
 use Rattle.model.specs.Limits.{rule_limit, item_limit}
 use Rattle.model.specs.Pattern.{Item, Patterns, count_p, read_p, items, bound}
 use Rattle.model.specs.Judged.{Judged, good, bad, refuse_if}
@@ -46,8 +47,8 @@ rule_of n (some l) (some r) = some (record { number = n; left = l; right = r })
 -- "rule number listed before, or right variable absent on the left" 5.
 unfoldable pub add_rule : List Rule → Option Rule → Judged (List Rule)
 unfolding listed bound
-add_rule rs none = bad 2
+add_rule rs none = bad NoEntry
 add_rule rs (some r) =
-    refuse_if (leb rule_limit (length rs)) 3
-    (refuse_if (is_listed (listed rs r.number) || not (bound r.left r.right)) 5
+    refuse_if (leb rule_limit (length rs)) TableFull
+    (refuse_if (is_listed (listed rs r.number) || not (bound r.left r.right)) RuleUnfit
     (good (r ∷ rs)))

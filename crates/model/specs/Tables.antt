@@ -1,26 +1,20 @@
 -- Tables handed in whole, as words: "judged before all else, as their frames would be".
 -- Slots that a count leaves unused, and a variable's count, play no part.
-use Rattle.std.specs.Prelude.{ℕ, zero, suc, ◌+◌, ◌-◌, ◌*◌, ◌/◌, Bool, true, false, ◌&&◌, List, [], ◌∷◌, leb, length, get_or, replicate}
+use Rattle.std.specs.Prelude.{ℕ, zero, suc, ◌+◌, ◌-◌, ◌*◌, ◌/◌, Bool, true, false, ◌&&◌, List, [], ◌∷◌, leb, length, get_or, replicate, Err}
 use Rattle.std.proofs.Math.Option.{Option, none, some}
-use Rattle.model.specs.declared.Answer.{Answer}
-use Rattle.model.specs.declared.Answer.TheVariants.{Refused}
 use Rattle.model.specs.declared.Connection.{Connection}
 use Rattle.model.specs.declared.Direction.{Direction}
 use Rattle.model.specs.declared.Direction.TheVariants.{Forward, Backward}
 use Rattle.model.specs.declared.Justification.{Justification}
 use Rattle.model.specs.declared.Justification.TheVariants.{Rule as by_rule, Congruence}
-use Rattle.model.specs.declared.Measured.{Measured}
-use Rattle.model.specs.declared.Measured.TheVariants.{Unmeasured}
-use Rattle.model.specs.declared.Verdict.{Verdict}
-use Rattle.model.specs.declared.Verdict.TheVariants.{Rejected}
 use Rattle.model.specs.Limits.{child_limit, item_limit}
 use Rattle.model.specs.Judged.{Judged, good, bad}
 use Rattle.model.specs.Pattern.{Item, variable, operator, Patterns}
 use Rattle.model.specs.Rule.{Rule, side, rule_of, add_rule}
-use Rattle.model.specs.Verdict.{verdict}
+use Rattle.model.specs.Verdict.{Verdict, rejection, verdict}
 use Rattle.model.specs.Node.{Node, add_node}
 use Rattle.model.specs.Connect.{add_connection}
-use Rattle.model.specs.Query.{Tables, measure, answer, area_after}
+use Rattle.model.specs.Query.{Tables, Measured, measure, Answer, answer, area_after}
 
 -- How an entry lies. A node: operator, count, and a slot for each of eight children.
 abbrev pub count_at : ℕ
@@ -193,17 +187,17 @@ judge_tables nws rws cws = with_nodes (node_table nws) (rule_table rws) (λ ns. 
 
 -- "a query or check over bad ones returns that number, otherwise as its own refusals do, place 0"
 abbrev pub measure_by : Judged Tables → ℕ → ℕ → Measured
-measure_by (bad n) l r = Unmeasured n
+measure_by (bad e) l r = Err e
 measure_by (good t) l r = measure t l r
 
 abbrev pub answer_by : Judged Tables → ℕ → ℕ → ℕ → Answer
-answer_by (bad n) area l r = Refused n
+answer_by (bad e) area l r = Err e
 answer_by (good t) area l r = answer t area l r
 
 abbrev pub area_of : Judged Tables → ℕ → ℕ → ℕ → List ℕ
-area_of (bad n) area l r = replicate area 0
+area_of (bad e) area l r = replicate area 0
 area_of (good t) area l r = area_after t area l r
 
 abbrev pub verdict_by : Judged Tables → List ℕ → Verdict
-verdict_by (bad n) ws = Rejected n 0
+verdict_by (bad e) ws = Err (rejection e 0)
 verdict_by (good t) ws = verdict t.rules ws

@@ -1,12 +1,13 @@
 -- The text of a flat term: document 01's spelling.
-use Rattle.std.specs.Prelude.{ℕ, zero, suc, ◌+◌, ◌-◌, ◌/◌, ◌%◌, Bool, true, false, List, [], ◌∷◌, ◌++◌, ltb, length, replicate}
+use Rattle.std.specs.Prelude.{ℕ, zero, suc, ◌+◌, ◌-◌, ◌/◌, ◌%◌, Bool, true, false, List, [], ◌∷◌, ◌++◌, ltb, length, replicate, Result, Ok, Err}
 use Prim.Native.String.{String, [] as no_text, ◌∷◌ as ◌then◌}
 use Prim.Native.Char.{code}
 use Rattle.std.proofs.Math.Option.{Option, none, some}
-use Rattle.model.specs.declared.Printed.{Printed}
-use Rattle.model.specs.declared.Printed.TheVariants.{Bytes, NoText}
+use Rattle.model.specs.declared.Refusal.{Refusal}
+use Rattle.model.specs.declared.Refusal.TheVariants.{NoRoom, NoWords, NoTerms}
 use Rattle.model.specs.declared.Direction.{Direction}
 use Rattle.model.specs.declared.Direction.TheVariants.{Forward, Backward}
+use Rattle.model.specs.Refusal.{number}
 use Rattle.model.specs.Term.{Mark, unmarked, marked, Terms, no_terms, tree, read}
 
 -- the bytes of a text in ASCII
@@ -58,17 +59,20 @@ unfolding texts bytes
 lines f = texts [] (bytes "\n") f
 
 -- "Text of one term: 12, 13 (also for a second term), then 11 if its bytes exceed the lent room"
+abbrev pub Printed : Type 0
+Printed = Result ℕ Refusal
+
 abbrev pub printed_if : Bool → ℕ → Printed
-printed_if true n = NoText 11
-printed_if false n = Bytes n
+printed_if true n = Err NoRoom
+printed_if false n = Ok n
 
 unfoldable pub printed : Option Terms → ℕ → Printed
 unfolding text
-printed none room = NoText 13
-printed (some no_terms) room = NoText 12
+printed none room = Err NoTerms
+printed (some no_terms) room = Err NoWords
 printed (some (tree o m k no_terms)) room =
     let n = length (text (tree o m k no_terms)) in printed_if (ltb room n) n
-printed (some (tree o m k (tree o' m' k' s))) room = NoText 13
+printed (some (tree o m k (tree o' m' k' s))) room = Err NoTerms
 
 unfoldable pub term_text : List ℕ → ℕ → Printed
 unfolding printed read
@@ -76,9 +80,9 @@ term_text ws room = printed (read ws) room
 
 -- "refused, the room is zero, as is the rest behind a written text"
 abbrev pub room_by : Printed → Option Terms → ℕ → List ℕ
-room_by (NoText n) o room = replicate room 0
-room_by (Bytes n) none room = replicate room 0
-room_by (Bytes n) (some f) room = text f ++ replicate (room - n) 0
+room_by (Err e) o room = replicate room 0
+room_by (Ok n) none room = replicate room 0
+room_by (Ok n) (some f) room = text f ++ replicate (room - n) 0
 
 unfoldable pub room_after : List ℕ → ℕ → List ℕ
 unfolding term_text read text
@@ -90,5 +94,5 @@ pub record TextReport : Type 0 where
   pub written : ℕ
 
 abbrev pub text_report : Printed → TextReport
-text_report (Bytes n) = record { number = 0; written = n }
-text_report (NoText n) = record { number = n; written = 0 }
+text_report (Ok n) = record { number = 0; written = n }
+text_report (Err e) = record { number = number e; written = 0 }

@@ -1,10 +1,12 @@
 -- What the strict checker says of words, over accepted rules: declaratively, and computed in document 01's order.
-use Rattle.std.specs.Prelude.{ℕ, suc, ◌≤◌, List, Bool, true, false, not, ◌≡◌, eqb, ltb, length}
+use Rattle.std.specs.Prelude.{ℕ, suc, ◌≤◌, List, Bool, true, false, not, ◌≡◌, eqb, ltb, length, Result, Ok, Err}
 use Rattle.std.proofs.Math.Option.{Option, none, some}
-use Rattle.model.specs.declared.Verdict.{Verdict}
-use Rattle.model.specs.declared.Verdict.TheVariants.{Accepted, Rejected}
+use Rattle.model.specs.declared.Refusal.{Refusal}
+use Rattle.model.specs.declared.Refusal.TheVariants.{NoWords, NoTerms, FirstMarked, NotOneMark, RuleUnlisted, NoStep, TooLong}
+use Rattle.model.specs.declared.Rejection.{Rejection}
 use Rattle.model.specs.Limits.{term_limit, word_limit}
 use Rattle.model.specs.Term.{Terms, no_terms, tree, count, marks, read, Reads}
+use Rattle.model.specs.Refusal.{number}
 use Rattle.model.specs.Rule.{Rule}
 use Rattle.model.specs.Step.{Step, step, some_mark, is_mark, unlisted}
 
@@ -34,40 +36,47 @@ pub record Proves (rs : List Rule) (ws : List ℕ) (n : ℕ) : Type 0 where
   pub few_terms : n ≤ term_limit
   pub strict : Strict rs terms
 
--- Computed: the number where its condition holds, at the place, else what comes behind it.
-abbrev pub reject_if : Bool → ℕ → ℕ → Verdict → Verdict
-reject_if true n k v = Rejected n k
-reject_if false n k v = v
+-- What the checker answers: the count of terms, or the refusal and the term's place.
+abbrev pub Verdict : Type 0
+Verdict = Result ℕ Rejection
+
+abbrev pub rejection : Refusal → ℕ → Rejection
+rejection r k = record { refusal = r; place = k }
+
+-- Computed: the refusal where its condition holds, at the place, else what comes behind it.
+abbrev pub reject_if : Bool → Refusal → ℕ → Verdict → Verdict
+reject_if true r k v = Err (rejection r k)
+reject_if false r k v = v
 
 -- "then each later term in order by 15, 18, 16, 17", of which A10 leaves 15, 16, 17: the term at place k, behind the term s, and what comes
 -- behind it. 15 is a term without exactly one mark, and 18 nobody's number.
 unfoldable pub later_verdict : List Rule → ℕ → Terms → Terms → Verdict → Verdict
 unfolding step marks unlisted
 later_verdict rs k s t v =
-    reject_if (not (eqb (marks t) 1)) 15 k
-    (reject_if (unlisted rs t) 16 k
-    (reject_if (not (step rs s t)) 17 k v))
+    reject_if (not (eqb (marks t) 1)) NotOneMark k
+    (reject_if (unlisted rs t) RuleUnlisted k
+    (reject_if (not (step rs s t)) NoStep k v))
 
 unfoldable pub chain_verdict : List Rule → ℕ → Terms → Terms → Verdict
 unfolding later_verdict
-chain_verdict rs k s no_terms = Accepted k
+chain_verdict rs k s no_terms = Ok k
 chain_verdict rs k s (tree o m ks f) =
     later_verdict rs k s (tree o m ks no_terms) (chain_verdict rs (suc k) (tree o m ks no_terms) f)
 
 -- "19 for terms, 14"; no terms at all are words of no proof, 12
 unfoldable pub terms_verdict : List Rule → Option Terms → Verdict
 unfolding chain_verdict some_mark count
-terms_verdict rs none = Rejected 13 0
-terms_verdict rs (some no_terms) = Rejected 12 0
+terms_verdict rs none = Err (rejection NoTerms 0)
+terms_verdict rs (some no_terms) = Err (rejection NoWords 0)
 terms_verdict rs (some (tree o m k f)) =
-    reject_if (ltb term_limit (suc (count f))) 19 0
-    (reject_if (some_mark is_mark (tree o m k no_terms)) 14 0
+    reject_if (ltb term_limit (suc (count f))) TooLong 0
+    (reject_if (some_mark is_mark (tree o m k no_terms)) FirstMarked 0
     (chain_verdict rs 1 (tree o m k no_terms) f))
 
 -- "19 for words, 12, 13": words that are none read as no terms
 unfoldable pub verdict : List Rule → List ℕ → Verdict
 unfolding terms_verdict read
-verdict rs ws = reject_if (ltb word_limit (length ws)) 19 0 (terms_verdict rs (read ws))
+verdict rs ws = reject_if (ltb word_limit (length ws)) TooLong 0 (terms_verdict rs (read ws))
 
 -- document 01's number and value for each case: "Success is number 0", with the count of terms; else the number and the place
 pub record Report : Type 0 where
@@ -75,5 +84,5 @@ pub record Report : Type 0 where
   pub value : ℕ
 
 abbrev pub report_of : Verdict → Report
-report_of (Accepted n) = record { number = 0; value = n }
-report_of (Rejected n k) = record { number = n; value = k }
+report_of (Ok n) = record { number = 0; value = n }
+report_of (Err e) = record { number = number e.refusal; value = e.place }

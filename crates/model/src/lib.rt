@@ -1,36 +1,37 @@
-// The types that document 01 names, its limits, and three functions that every room has: a word as a count, a word of an entry, and
-// what makes two nodes the same operator. What the types mean is said in specs/.
+// The types that document 01 names, its limits, its refusals with their numbers, and a word of an entry. What the types mean is said
+// in specs/.
 #![tactic(auto)]
 
 ghost use Rattle.std.specs.Prelude.{◌≡◌, ◌+◌, ◌<◌, length, get_or};
-ghost use Rattle.model.specs.Term.{same_op};
+ghost use Rattle.model.specs.Refusal.{number};
+ghost use Rattle.model.specs.Verdict.{rejection};
 
 // Node, rule and operator numbers are three kinds that must never be exchanged.
-#[derive(Clone, Copy)]
+#[derive(Clone, Copy, PartialEq, Eq)]
 pub struct NodeNo(pub u16);
 
-#[derive(Clone, Copy)]
+#[derive(Clone, Copy, PartialEq, Eq)]
 pub struct RuleNo(pub u16);
 
-#[derive(Clone, Copy)]
+#[derive(Clone, Copy, PartialEq, Eq)]
 pub struct OpNo(pub u16);
 
 // Which way round a rule connection, or a mark, applies its rule.
-#[derive(Clone, Copy)]
+#[derive(Clone, Copy, PartialEq, Eq)]
 pub enum Direction {
     Forward,
     Backward,
 }
 
 // Why a connection stands: a rule with its number and direction, or congruence.
-#[derive(Clone, Copy)]
+#[derive(Clone, Copy, PartialEq, Eq)]
 pub enum Justification {
     Rule(RuleNo, Direction),
     Congruence,
 }
 
 // A connection goes from current to next. Its age is its place in the table.
-#[derive(Clone, Copy)]
+#[derive(Clone, Copy, PartialEq, Eq)]
 pub struct Connection {
     pub current: NodeNo,
     pub next: NodeNo,
@@ -50,40 +51,94 @@ pub struct Bindings {
     pub spans: [Span; VARIABLE_LIMIT],
 }
 
-// What judging an entry of a table answers: it is taken, or the number of the refusal.
-#[derive(Clone, Copy)]
-pub enum Judgement {
-    Taken,
-    Faulty(u16),
+// Document 01's refusals, in the order of its numbers: 1 to 17, and 19.
+#[derive(Clone, Copy, PartialEq, Eq)]
+pub enum Refusal {
+    NoLine,
+    NoEntry,
+    TableFull,
+    ChildNotBelow,
+    RuleUnfit,
+    EndsUnfit,
+    NoSupport,
+    NoNode,
+    NotJoined,
+    TooFar,
+    NoRoom,
+    NoWords,
+    NoTerms,
+    FirstMarked,
+    NotOneMark,
+    RuleUnlisted,
+    NoStep,
+    TooLong,
 }
 
-// What the strict checker answers: the count of terms, or the number of a refusal and the term's place from 0.
-#[derive(Clone, Copy)]
-pub enum Verdict {
-    Accepted(usize),
-    Rejected(u16, usize),
+// The number that document 01 gives a refusal.
+impl From<Refusal> for u16 {
+    ghost from_gives = { λ r n. n ≡ number r };
+
+    fn from(refusal: Refusal) -> u16 {
+        match refusal {
+            Refusal::NoLine => 1,
+            Refusal::NoEntry => 2,
+            Refusal::TableFull => 3,
+            Refusal::ChildNotBelow => 4,
+            Refusal::RuleUnfit => 5,
+            Refusal::EndsUnfit => 6,
+            Refusal::NoSupport => 7,
+            Refusal::NoNode => 8,
+            Refusal::NotJoined => 9,
+            Refusal::TooFar => 10,
+            Refusal::NoRoom => 11,
+            Refusal::NoWords => 12,
+            Refusal::NoTerms => 13,
+            Refusal::FirstMarked => 14,
+            Refusal::NotOneMark => 15,
+            Refusal::RuleUnlisted => 16,
+            Refusal::NoStep => 17,
+            Refusal::TooLong => 19,
+        }
+    }
 }
 
-// What the distance of a pair answers: the distance, or the number of a refusal.
-#[derive(Clone, Copy)]
-pub enum Measured {
-    Distance(usize),
-    Unmeasured(u16),
+// What judging an entry of a table answers: it is taken, or the refusal.
+pub type Judgement = Result<(), Refusal>;
+
+// A refusal of the strict checker, and the term's place from 0.
+#[derive(Clone, Copy, PartialEq, Eq)]
+pub struct Rejection {
+    pub refusal: Refusal,
+    pub place: usize,
 }
 
-// What a query answers: the distance and the words written, or the number of a refusal.
-#[derive(Clone, Copy)]
-pub enum Answer {
-    Written(usize, usize),
-    Refused(u16),
+// A proof that is refused before its terms are judged one by one is refused at place 0.
+impl From<Refusal> for Rejection {
+    ghost from_gives = { λ r e. e ≡ rejection r 0 };
+
+    fn from(refusal: Refusal) -> Rejection {
+        Rejection { refusal, place: 0 }
+    }
 }
 
-// What the text of a term answers: the bytes written, or the number of a refusal.
-#[derive(Clone, Copy)]
-pub enum Printed {
-    Bytes(usize),
-    NoText(u16),
+// What the strict checker answers: the count of terms, or the refusal.
+pub type Verdict = Result<usize, Rejection>;
+
+// What the distance of a pair answers: the distance, or the refusal.
+pub type Measured = Result<usize, Refusal>;
+
+// The distance of a query's pair, and the words that its proof was written into.
+#[derive(Clone, Copy, PartialEq, Eq)]
+pub struct Written {
+    pub distance: usize,
+    pub words: usize,
 }
+
+// What a query answers: what was written, or the refusal.
+pub type Answer = Result<Written, Refusal>;
+
+// What the text of a term answers: the bytes written, or the refusal.
+pub type Printed = Result<usize, Refusal>;
 
 // The limits of document 01, each named once; specs/Limits.antt has the same numbers.
 pub const NODE_LIMIT: usize = 2048;
@@ -134,24 +189,10 @@ pub const BY_RULE_AT: usize = 3;
 
 pub const FORWARD_AT: usize = 4;
 
-// A word as a count or a place.
-pub fn wide(x: u16) -> usize
-    ensures { result ≡ x }
-{
-    x as usize
-}
-
 // A word of an entry that starts at a base.
 pub fn word(words: &[u16], base: usize, k: usize) -> u16
     requires { base + k < length words.now }
     ensures { result ≡ get_or words.now (base + k) 0 }
 {
     words[base + k]
-}
-
-// What makes two nodes the same operator.
-pub fn same_op(a: OpNo, b: OpNo) -> bool
-    ensures { result ≡ same_op a.0 b.0 }
-{
-    a.0 == b.0
 }

@@ -7,13 +7,14 @@ use mathlib.Core.Logic.{⊎_elim}
 use native.Mathlib.Nat.{add_assoc, zero-add, add-zero}
 use native.Mathlib.Omega.{arith}
 use lib.ListN.{get_or, length}
+use Rattle.forest.specs.declared.Row.{Row}
 use Rattle.model.specs.declared.Connection.{Connection}
 use Rattle.model.specs.declared.NodeNo.{NodeNo}
 use Rattle.model.specs.Forest.{Parent, below, joined, parent_of, root, top}
 use Rattle.model.specs.Limits.{node_limit}
 use Rattle.paths.specs.Hangs.{Forest, depth, next_of}
 use Rattle.paths.specs.Meet.{meet_of, top_of}
-use Rattle.paths.specs.declared.Meeting.TheVariants.{At, Nowhere}
+use Rattle.std.specs.Prelude.{Some, None}
 use Rattle.paths.proofs.Laws.{no-parent, parent-case}
 use Rattle.paths.proofs.Walks.{climb-left, walk-self}
 use Rattle.paths.proofs.Joined.{joined-root}
@@ -49,12 +50,12 @@ unfolding tally
 tally-self table cs n = walk-self 0 ◌+◌ (λ older _ c u. get_or table (length older) 0) cs n
 
 -- one step of a climb: what its connection's number adds
-pub record Counted (rows table : List ℕ) (cs : List Connection) (at to up : ℕ) : Type 0 where
+pub record Counted (rows : List Row) (table : List ℕ) (cs : List Connection) (at to up : ℕ) : Type 0 where
   pub aged : 0 < age_in rows at
   pub few : age_in rows at < node_limit
   pub nodes : tally table cs at to ≡ get_or table (age_in rows at - 1) 0 + tally table cs up to
 
-module _ {cs : List Connection} {n : ℕ} {rows : List ℕ} (table : List ℕ) (k : Climbs cs n rows) (at to up : ℕ) (h : at < n) (e : at ≡ to → ⊥)
+module _ {cs : List Connection} {n : ℕ} {rows : List Row} (table : List ℕ) (k : Climbs cs n rows) (at to up : ℕ) (h : at < n) (e : at ≡ to → ⊥)
     (u : up ≡ next_in rows at) where
   abbrev f : Forest cs
   f = k.rooted.forest
@@ -83,13 +84,13 @@ module _ {cs : List Connection} {n : ℕ} {rows : List ℕ} (table : List ℕ) (
   counted a = counted-by a.steps a.enough a.leads
 
 -- a climb on its way, with what it has cost and appended so far
-pub record Gone (rows table : List ℕ) (cs : List Connection) (n from to at d m : ℕ) : Type 0 where
+pub record Gone (rows : List Row) (table : List ℕ) (cs : List Connection) (n from to at d m : ℕ) : Type 0 where
   pub inside : at < n
   pub above : Above cs at to
   pub cost : Same (d + weigh rows cs at to) (weigh rows cs from to)
   pub nodes : Same (m + tally table cs at to) (tally table cs from to)
 
-module _ {rows table : List ℕ} {cs : List Connection} {n from to at d m : ℕ} (k : Climbs cs n rows)
+module _ {rows : List Row} {table : List ℕ} {cs : List Connection} {n from to at d m : ℕ} (k : Climbs cs n rows)
     (w : Gone rows table cs n from to at d m) where
   pub gone-up : (up : ℕ) → (at ≡ to → ⊥) → up ≡ next_in rows at → Counted rows table cs at to up
   gone-up up e u = counted table k at to up w.inside e u w.above
@@ -162,14 +163,14 @@ module _ (above below' : List ℕ) where
       ∙ ap₂ ◌+◌ (climb-up m.i cs l ∙ sym a ∙ ap (tally above cs l) m.left)
       (climb-down m.j cs r ∙ sym b ∙ ap (tally below' cs r) m.right)
 
-  pub two_ways : {cs : List Connection} {n : ℕ} (l r : ℕ) {rows : List ℕ} {t : NodeNo} → Climbs cs n rows → At t ≡ meet_of cs l r →
+  pub two_ways : {cs : List Connection} {n : ℕ} (l r : ℕ) {rows : List Row} {t : NodeNo} → Climbs cs n rows → Some t ≡ meet_of cs l r →
       path_nodes above below' cs l r ≡ tally above cs l t.0 + tally below' cs r t.0
   unfolding meet_of
   two_ways {cs} {n} l r {rows} {t} k e = go (joined cs l r) refl
     where
       go : (b : Bool) → joined cs l r ≡ b → path_nodes above below' cs l r ≡ tally above cs l t.0 + tally below' cs r t.0
       go true q =
-          let p : At t ≡ At (record { 0 = top_of cs l r }) = e ∙ rw q in
+          let p : Some t ≡ Some (record { 0 = top_of cs l r }) = e ∙ rw q in
           let s : t ≡ record { 0 = top_of cs l r } = cc in
           rw (ap (λ (x : NodeNo). x.0) s) (at_top cs l r k.rooted.forest (joined-root cs l r q))
-      go false q = let z : At t ≡ Nowhere = e ∙ rw q in let y : ◌≡◌ {A = ℕ} 0 1 = cc in absurd (omega arith)
+      go false q = let z : Some t ≡ None = e ∙ rw q in let y : ◌≡◌ {A = ℕ} 0 1 = cc in absurd (omega arith)

@@ -5,6 +5,7 @@ use mathlib.Core.Bool.{Bool}
 use mathlib.Core.List.{List, [], ◌∷◌}
 use native.Mathlib.Omega.{arith}
 use lib.ListN.{get_or, length}
+use Rattle.forest.specs.declared.Row.{Row}
 use Rattle.model.specs.declared.Connection.{Connection}
 use Rattle.model.specs.Limits.{distance_limit}
 use Rattle.model.specs.Node.{Node}
@@ -30,7 +31,7 @@ Under n xs = (i : ℕ) → i < length xs → get_or xs i 0 < n
 abbrev plus : ℕ × ℕ → ℕ × ℕ → ℕ × ℕ
 plus p q = (p.0 + q.0, p.1 + q.1)
 
-module _ (ns : List Node) (ws rows ups downs : List ℕ) where
+module _ (ns : List Node) (ws : List ℕ) (rows : List Row) (ups downs : List ℕ) where
   abbrev each : List Connection → (ℕ → ℕ → ℕ × ℕ) → Connection → Bool → ℕ × ℕ
   each older _ c u = (cost_in rows (cur c), get_or (pick u ups downs) (length older) 0)
 

@@ -7,6 +7,7 @@ use native.Mathlib.Decide.{ℕ_discrete}
 use native.Mathlib.Omega.{arith}
 use lib.ListN.{get_or, length, set}
 use lib.Seq.{get_or-set_other, get_or-set_same}
+use Rattle.forest.specs.declared.Row.{Row}
 use Rattle.model.specs.declared.Connection.{Connection}
 use Rattle.model.specs.declared.Justification.{Justification}
 use Rattle.model.specs.declared.Justification.TheVariants.{Rule as by_rule, Congruence}
@@ -46,7 +47,7 @@ abbrev pub to : Bool → Connection → ℕ
 to true c = nxt c
 to false c = cur c
 
-alike_turned : {nodes rows : List ℕ} {a b : ℕ} → Alike nodes rows a b → Alike nodes rows b a
+alike_turned : {nodes : List ℕ} {rows : List Row} {a b : ℕ} → Alike nodes rows a b → Alike nodes rows b a
 alike_turned p =
     record {
       conns = p.conns;
@@ -60,7 +61,7 @@ alike_turned p =
     }
 
 -- one connection, over accepted tables and the needs of those before it
-module _ {nodes conns rows sizes : List ℕ} (w : Counts nodes conns rows sizes) (k : ℕ) (h : k < length conns / connection_words) where
+module _ {nodes conns : List ℕ} {rows : List Row} {sizes : List ℕ} (w : Counts nodes conns rows sizes) (k : ℕ) (h : k < length conns / connection_words) where
   abbrev ns : List Node
   ns = nodes_of nodes
 

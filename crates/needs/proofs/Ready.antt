@@ -4,6 +4,7 @@ use mathlib.Core.List.{List}
 use mathlib.Core.Path.{◌≡◌}
 use native.Mathlib.Omega.{arith}
 use lib.ListN.{length}
+use Rattle.forest.specs.declared.Row.{Row}
 use Rattle.model.specs.Limits.{node_limit}
 use Rattle.model.specs.Tables.{connection_words}
 use Rattle.entries.specs.Connections.{Supported}
@@ -14,7 +15,7 @@ use Rattle.trees.specs.Sizes.{filled_sizes}
 use Rattle.trees.proofs.Filled.{filled-sized}
 use Rattle.needs.specs.Needs.{Counts}
 
-pub counts : {nodes conns rows sizes : List ℕ} (old : List ℕ) → NodesWhole nodes →
+pub counts : {nodes conns : List ℕ} {rows : List Row} {sizes : List ℕ} (old : List ℕ) → NodesWhole nodes →
     Supported nodes (nodes_in nodes) conns (length conns / connection_words) → Charged (connections_of conns) (nodes_in nodes) rows →
     Filled (nodes_of nodes) conns rows (length conns / connection_words) → length old ≡ node_limit →
     sizes ≡ filled_sizes (nodes_of nodes) (nodes_in nodes) old → Counts nodes conns rows sizes

@@ -1,5 +1,6 @@
 -- How many nodes a connection appends, walked from current to next and back; tables of that by age, and sums by them.
 -- A number past the first that no proof can have is held there.
+use Rattle.forest.specs.declared.Row.{Row}
 use Rattle.std.specs.Prelude.{ℕ, ◌+◌, ◌*◌, ◌/◌, ◌≤◌, ◌<◌, Bool, true, false, List, [], ◌∷◌, ◌≡◌, get_or, length}
 use Rattle.model.specs.declared.Connection.{Connection}
 use Rattle.model.specs.declared.Justification.{Justification}
@@ -67,7 +68,7 @@ pub record Appends (cost need r : ℕ) : Type 0 where
   pub exact : 0 < cost → cost ≤ distance_limit → r ≡ held_nodes need
 
 -- two nodes of a table with sizes that a connection leads between; a congruence has its support
-pub record Led (nodes rows sizes : List ℕ) (why : Justification) (a b : ℕ) : Type 0 where
+pub record Led (nodes : List ℕ) (rows : List Row) (sizes : List ℕ) (why : Justification) (a b : ℕ) : Type 0 where
   pub few : NodesStand nodes (nodes_in nodes)
   pub sized : Sized (nodes_of nodes) sizes (nodes_in nodes)
   pub left_in : a < nodes_in nodes
@@ -75,7 +76,7 @@ pub record Led (nodes rows sizes : List ℕ) (why : Justification) (a b : ℕ) :
   pub alike : why ≡ Congruence → Alike nodes rows a b
 
 -- accepted tables, the rows with their costs and the sizes: all that needs are counted from
-pub record Counts (nodes conns rows sizes : List ℕ) : Type 0 where
+pub record Counts (nodes conns : List ℕ) (rows : List Row) (sizes : List ℕ) : Type 0 where
   pub whole : NodesWhole nodes
   pub support : Supported nodes (nodes_in nodes) conns (length conns / connection_words)
   pub charged : Charged (connections_of conns) (nodes_in nodes) rows

@@ -2,7 +2,7 @@
 use Prim.Native.Nat.{ℕ}
 use mathlib.Core.Path.{◌≡◌, sym, ap, ◌∙◌}
 use contract.Lifetimes.{Lfts}
-use Rattle.model.specs.declared.Judgement.{Judgement}
+use Rattle.model.specs.Judged.{Judgement}
 use Rattle.model.specs.declared.NodeNo.{NodeNo}
 use Rattle.model.specs.declared.OpNo.{OpNo}
 use Rattle.nodes.proofs.operator_of.Reads as operator-of

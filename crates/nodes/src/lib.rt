@@ -9,7 +9,8 @@ ghost use Rattle.model.specs.Tables.{node_entry, node_table, node_words};
 ghost use Rattle.entries.specs.Nodes.{first_nodes, count_in, child_in, children_in};
 
 use model::{
-    CHILD_LIMIT, CHILDREN_AT, COUNT_AT, Judgement, NODE_LIMIT, NODE_WORDS, NodeNo, OpNo, wide, word,
+    CHILD_LIMIT, CHILDREN_AT, COUNT_AT, Judgement, NODE_LIMIT, NODE_WORDS, NodeNo, OpNo, Refusal,
+    word,
 };
 
 // A node's operator.
@@ -17,7 +18,7 @@ pub fn operator_of(nodes: &[u16], n: NodeNo) -> OpNo
     requires { n.0 * node_words + node_words ≤ length nodes.now }
     ensures { result.0 ≡ get_or nodes.now (n.0 * node_words) 0 }
 {
-    OpNo(nodes[wide(n.0) * NODE_WORDS])
+    OpNo(nodes[usize::from(n.0) * NODE_WORDS])
 }
 
 // How many children a node has.
@@ -25,7 +26,7 @@ pub fn count_of(nodes: &[u16], n: NodeNo) -> usize
     requires { n.0 * node_words + node_words ≤ length nodes.now }
     ensures { result ≡ count_in nodes.now n.0 }
 {
-    wide(word(nodes, wide(n.0) * NODE_WORDS, COUNT_AT))
+    usize::from(word(nodes, usize::from(n.0) * NODE_WORDS, COUNT_AT))
 }
 
 // A child of a node, from 0.
@@ -33,7 +34,7 @@ pub fn child_of(nodes: &[u16], n: NodeNo, i: usize) -> NodeNo
     requires { (n.0 * node_words + node_words ≤ length nodes.now) × (i < child_limit) }
     ensures { result.0 ≡ child_in nodes.now n.0 i }
 {
-    NodeNo(word(nodes, wide(n.0) * NODE_WORDS + CHILDREN_AT, i))
+    NodeNo(word(nodes, usize::from(n.0) * NODE_WORDS + CHILDREN_AT, i))
 }
 
 // Whether the children of a node have lower numbers than its own.
@@ -41,13 +42,12 @@ fn children_below(nodes: &[u16], n: usize) -> bool
     requires { (n ≤ node_limit) × (n * node_words + node_words ≤ length nodes.now) × (count_in nodes.now n ≤ child_limit) }
     ensures { result ≡ all_below n (children_in nodes.now n) }
 {
-    let count = wide(word(nodes, n * NODE_WORDS, COUNT_AT));
-    let mut i: usize = 0;
-    while i < count {
-        if n <= wide(word(nodes, n * NODE_WORDS + CHILDREN_AT, i)) {
+    let at = n * NODE_WORDS + CHILDREN_AT;
+    let count = usize::from(word(nodes, n * NODE_WORDS, COUNT_AT));
+    for child in &nodes[at..at + count] {
+        if n <= usize::from(*child) {
             return false;
         }
-        i += 1;
     }
     true
 }
@@ -58,32 +58,27 @@ pub fn judge_node(nodes: &[u16], n: usize) -> Judgement
     ensures { result ≡ judgement_of (add_node (first_nodes n nodes.now) (node_entry nodes.now n)) }
 {
     if nodes.len() < n * NODE_WORDS + NODE_WORDS {
-        return Judgement::Faulty(2);
+        return Err(Refusal::NoEntry);
     }
     if CHILD_LIMIT < word(nodes, n * NODE_WORDS, COUNT_AT) {
-        return Judgement::Faulty(2);
+        return Err(Refusal::NoEntry);
     }
     if NODE_LIMIT <= n {
-        return Judgement::Faulty(3);
+        return Err(Refusal::TableFull);
     }
     if children_below(nodes, n) {
-        Judgement::Taken
+        Ok(())
     } else {
-        Judgement::Faulty(4)
+        Err(Refusal::ChildNotBelow)
     }
 }
 
-// Judges a whole table of nodes.
+// Judges a whole table of nodes. A part of an entry at the end is too short to be one.
 pub fn judge_nodes(nodes: &[u16]) -> Judgement
     ensures { result ≡ judgement_of (node_table nodes.now) }
 {
-    let mut n: usize = 0;
-    while n * NODE_WORDS < nodes.len() {
-        let judged = judge_node(nodes, n);
-        if let Judgement::Faulty(number) = judged {
-            return Judgement::Faulty(number);
-        }
-        n += 1;
+    for n in 0..nodes.len().div_ceil(NODE_WORDS) {
+        judge_node(nodes, n)?;
     }
-    Judgement::Taken
+    Ok(())
 }

@@ -8,6 +8,7 @@ use native.Mathlib.Omega.{arith}
 use borrow.Author.Tests.{ltb-true, not-false}
 use lib.Dec.{ltb, eqb}
 use lib.ListN.{length, get_or}
+use Rattle.model.specs.declared.Refusal.TheVariants.{EndsUnfit, NoSupport}
 use Rattle.model.specs.declared.Connection.{Connection}
 use Rattle.model.specs.declared.Justification.TheVariants.{Congruence}
 use Rattle.model.specs.Judged.{good}
@@ -48,8 +49,8 @@ placed ns cs c p =
 pub sound : {ns : List Node} {cs : List Connection} {c : Connection} → add_connection ns cs (some c) ≡ good (c ∷ cs) → Sound ns cs c
 unfolding add_connection
 sound {ns} {cs} {c} p =
-    let a = taken (misplaced ns cs c) 6 _ _ p in
-    let b = taken (not (supported ns cs c.why (cur c) (nxt c))) 7 _ _ a.1 in
+    let a = taken (misplaced ns cs c) EndsUnfit _ _ p in
+    let b = taken (not (supported ns cs c.why (cur c) (nxt c))) NoSupport _ _ a.1 in
     let q = placed ns cs c a.0 in
     record { current-in = q.0; next-in = q.1; hangs = q.2; support = not-false _ b.0 }
 

@@ -9,8 +9,8 @@ use native.Mathlib.Decide.{ℕ_discrete}
 use Rattle.model.specs.declared.Connection.{Connection}
 use Rattle.model.specs.Forest.{nxt, root, joined, walk, below, parent_of}
 use Rattle.paths.specs.Hangs.{next_of, depth, Forest, Within}
-use Rattle.paths.specs.Meet.{Last, none, at, last, or_else, last_up, top_of, meet_of, found}
-use Rattle.paths.specs.declared.Meeting.TheVariants.{At, Nowhere}
+use Rattle.paths.specs.Meet.{Last, none, at, last, or_else, last_up, top_of, meet_of}
+use Rattle.std.specs.Prelude.{Some, None, is_some}
 use Rattle.paths.proofs.Laws.{no-parent, parent-case, root_below, joined-yes, joined-no}
 use Rattle.paths.proofs.Walks.{depth-zero, climb-left, climb-right, walk-self}
 use Rattle.paths.proofs.Places.{Place, high, low, place}
@@ -38,11 +38,11 @@ last-at l n (at m) = refl
 abbrev ups : List Connection → ℕ → ℕ → Last
 ups = walk none last (λ _ _. last_up)
 
-pub meet-done : (cs : List Connection) (n : ℕ) → meet_of cs n n ≡ At (record { 0 = n })
+pub meet-done : (cs : List Connection) (n : ℕ) → meet_of cs n n ≡ Some (record { 0 = n })
 unfolding meet_of top_of
 meet-done cs n = rw (joined-yes cs n n refl, walk-self none last (λ _ _. last_up) cs n)
 
-pub meet-none : (cs : List Connection) (l r : ℕ) → (root cs l ≡ root cs r → ⊥) → meet_of cs l r ≡ Nowhere
+pub meet-none : (cs : List Connection) (l r : ℕ) → (root cs l ≡ root cs r → ⊥) → meet_of cs l r ≡ None
 unfolding meet_of
 meet-none cs l r p = rw (joined-no cs l r p)
 
@@ -58,7 +58,7 @@ module _ (cs : List Connection) (l r : ℕ) (f : Forest cs) (n : l ≡ r → ⊥
             | yes j ↦
                 let w = climb-left none last (λ _ _. last_up) last-assoc last_none (λ a. refl) cs l r f p j h n in
                 rw (q, joined-yes cs l r j, joined-yes cs (nxt c) r (sym (root_below cs l f p) ∙ j), w)
-                (ap (λ x. At (record { 0 = x })) (last-at l (nxt c) (ups cs (nxt c) r)))
+                (ap (λ x. Some (record { 0 = x })) (last-at l (nxt c) (ups cs (nxt c) r)))
             | no j ↦ rw (q, joined-no cs l r j, joined-no cs (nxt c) r (λ e. j (root_below cs l f p ∙ e))) refl
           ]
 
@@ -76,13 +76,13 @@ module _ (cs : List Connection) (l r : ℕ) (f : Forest cs) (n : l ≡ r → ⊥
             | no j ↦ rw (q, joined-no cs l r j, joined-no cs l (nxt c) (λ e. j (e ∙ sym (root_below cs r f p)))) refl
           ]
 
-  pub meet-nowhere : depth cs l ≡ 0 → depth cs r ≡ 0 → meet_of cs l r ≡ Nowhere
+  pub meet-nowhere : depth cs l ≡ 0 → depth cs r ≡ 0 → meet_of cs l r ≡ None
   meet-nowhere p q = meet-none cs l r (λ e. n (sym (depth-zero cs l f p) ∙ e ∙ depth-zero cs r f q))
 
-pub meet-joined : (cs : List Connection) (l r : ℕ) → found (meet_of cs l r) ≡ joined cs l r
+pub meet-joined : (cs : List Connection) (l r : ℕ) → is_some (meet_of cs l r) ≡ joined cs l r
 unfolding meet_of
 meet-joined cs l r = go (joined cs l r) refl
   where
-    go : (b : Bool) → joined cs l r ≡ b → found (meet_of cs l r) ≡ joined cs l r
+    go : (b : Bool) → joined cs l r ≡ b → is_some (meet_of cs l r) ≡ joined cs l r
     go true p = rw p
     go false p = rw p

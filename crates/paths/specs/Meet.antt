@@ -1,9 +1,8 @@
 -- Where two climbs meet.
-use Rattle.std.specs.Prelude.{ℕ, Bool, true, false, cond, List}
+use Rattle.std.specs.Prelude.{ℕ, Bool, true, false, cond, List, Option, Some, None}
 use Rattle.model.specs.declared.Connection.{Connection}
 use Rattle.model.specs.Forest.{nxt, joined, walk}
-use Rattle.paths.specs.declared.Meeting.{Meeting}
-use Rattle.paths.specs.declared.Meeting.TheVariants.{At, Nowhere}
+use Rattle.model.specs.declared.NodeNo.{NodeNo}
 
 -- the last node of a list of nodes that may be empty; behind each other, the later one counts
 pub data Last : Type 0 where
@@ -29,10 +28,6 @@ unfolding walk
 top_of cs l r = or_else l (walk none last (λ _ _. last_up) cs l r)
 
 -- "Both ends climb by parent connections until they meet"
-unfoldable pub meet_of : List Connection → ℕ → ℕ → Meeting
+unfoldable pub meet_of : List Connection → ℕ → ℕ → Option NodeNo
 unfolding joined top_of
-meet_of cs l r = cond (joined cs l r) (At (record { 0 = top_of cs l r })) Nowhere
-
-abbrev pub found : Meeting → Bool
-found (At n) = true
-found Nowhere = false
+meet_of cs l r = cond (joined cs l r) (Some (record { 0 = top_of cs l r })) None

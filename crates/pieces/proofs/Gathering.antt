@@ -1,121 +1,97 @@
--- The bytes of a piece that are passed, taken into the line as far as it has room; those left hold the rest up to the line feed.
-use Prim.Native.Nat.{ℕ, ◌+◌, ◌-◌, ◌≤◌, ◌<◌}
+-- A piece's bytes up to its first line feed, and what a line has room for of them.
+use Prim.Native.Nat.{ℕ, suc, min, ◌+◌, ◌-◌, ◌<◌}
 use mathlib.Core.Bool.{Bool, true, false}
-use mathlib.Core.List.{List, [], ◌∷◌, ◌++◌, append_assoc, append-nil}
-use mathlib.Core.Path.{◌≡◌, refl, sym, ap, ap₂, ◌∙◌}
+use mathlib.Core.List.{List, [], ◌∷◌}
+use mathlib.Core.Logic.{◌⊎◌, ⊎_elim, inl, inr}
+use mathlib.Core.Path.{◌≡◌, refl, sym, ap, ◌∙◌}
 use native.Mathlib.Omega.{arith}
-use native.Mathlib.Numerals.{add-one}
-use borrow.Author.Tests.{eq-eqb, ne_eqb}
-use lib.ListN.{length, get_or, set, drop, length-append, length-take, drop_of_length-le}
-use lib.Seq.{drop-cons, take_all, take-nil, take-append-le}
+use borrow.Author.Tests.{lt-ltb, le-ltb, leb-true, leb-false}
+use lib.Dec.{leb, eqb}
+use lib.ListN.{length, take, drop, length-drop}
+use lib.Seq.{take_all, length-take-le}
+use Rattle.std.specs.Prelude.{Some, None, ◌==◌, position}
+use Rattle.std.specs.List.{position_or_len}
 use Rattle.model.specs.Run.{line_feed}
 use Rattle.laws.specs.Area.{splice}
-use Rattle.laws.proofs.Area.{splice-none, splice-push, length-splice}
 use Rattle.pieces.specs.declared.Gathered.{Gathered}
 use Rattle.pieces.specs.Line.{up_to_feed, has_feed, kept_limit, fitting, line_end, gathered}
 
--- what stands at a place: nothing, a line feed, another byte
-module _ (bs : List ℕ) (i : ℕ) where
-  pub none_left : length bs ≤ i → (has_feed (drop i bs) ≡ false) × (up_to_feed (drop i bs) ≡ [])
-  unfolding has_feed up_to_feed
-  none_left h = let e : drop i bs ≡ [] = drop_of_length-le bs {i = i} h in (ap has_feed e, ap up_to_feed e)
+-- how many bytes stand before the first line feed
+abbrev before : List ℕ → ℕ
+before bs = position_or_len (λ b. b == line_feed) bs
 
-  pub feed-here : i < length bs → get_or bs i 0 ≡ line_feed → (has_feed (drop i bs) ≡ true) × (up_to_feed (drop i bs) ≡ [])
-  unfolding has_feed up_to_feed
-  feed-here h e =
-      let c = drop-cons bs i 0 h in
-      let t = eq-eqb (get_or bs i 0) line_feed e in
-      (ap has_feed c ∙ rw t refl, ap up_to_feed c ∙ rw t refl)
+abbrev Before : List ℕ → Type 0
+Before bs =
+    (up_to_feed bs ≡ take (before bs) bs)
+    × (((has_feed bs ≡ true) × (before bs < length bs)) ⊎ ((has_feed bs ≡ false) × (before bs ≡ length bs)))
 
-  pub byte-here : i < length bs → (get_or bs i 0 ≡ line_feed → ⊥) →
-      (has_feed (drop i bs) ≡ has_feed (drop (i + 1) bs)) × (up_to_feed (drop i bs) ≡ get_or bs i 0 ∷ up_to_feed (drop (i + 1) bs))
-  unfolding has_feed up_to_feed
-  byte-here h e =
-      let c : drop i bs ≡ get_or bs i 0 ∷ drop (i + 1) bs = rw add-one (drop-cons bs i 0 h) in
-      let t = ne_eqb (get_or bs i 0) line_feed e in
-      (ap has_feed c ∙ rw t refl, ap up_to_feed c ∙ rw t refl)
+before-feed : (bs : List ℕ) → Before bs
+unfolding up_to_feed has_feed
+before-feed [] = (refl, inr (refl, refl))
+before-feed (b ∷ bs) = by (before-feed bs) (eqb b line_feed) refl
+  where
+    by : Before bs → (t : Bool) → eqb b line_feed ≡ t → Before (b ∷ bs)
+    by f true e = rw e (refl, inl (refl, omega arith))
+    by f false e =
+        let next : suc (before bs) ≡ 1 + before bs = omega arith in
+        rw e (
+          ap (λ (l : List ℕ). b ∷ l) f.0 ∙ ap (λ (k : ℕ). take k (b ∷ bs)) next,
+          ⊎_elim (λ x. inl (x.0, omega (arith, x.1))) (λ x. inr (x.0, omega (arith, x.1))) f.1,
+        )
 
--- what a line has room for, with one byte more
-module _ (held : ℕ) (room : held ≤ kept_limit) (front : List ℕ) (b : ℕ) where
-  pub still-fits : held + length (fitting held front) < kept_limit → fitting held (front ++ (b ∷ [])) ≡ fitting held front ++ (b ∷ [])
-  still-fits h =
-      let short : length front < kept_limit - held = omega (arith, length-take (kept_limit - held) front) in
-      take_all (kept_limit - held) (front ++ (b ∷ [])) (omega (arith, length-append front (b ∷ [])))
-      ∙ ap (λ (l : List ℕ). l ++ (b ∷ [])) (sym (take_all (kept_limit - held) front (omega arith)))
+-- a line feed is found, or none
+pub feed-found : (bs : List ℕ) {at : ℕ} → position (λ b. b == line_feed) bs ≡ Some at →
+    (has_feed bs ≡ true) × (up_to_feed bs ≡ take at bs) × (length (take at bs) ≡ at)
+feed-found bs {at} e =
+    let f = before-feed bs in
+    ⊎_elim (λ x. there f.0 x.0 x.1) (λ x. absurd (nowhere x.1)) f.1
+  where
+    there : up_to_feed bs ≡ take (before bs) bs → has_feed bs ≡ true → before bs < length bs →
+        (has_feed bs ≡ true) × (up_to_feed bs ≡ take at bs) × (length (take at bs) ≡ at)
+    there u h l =
+        let z : Some (before bs) ≡ Some at = rw (lt-ltb (before bs) (length bs) l) at e in
+        let same : before bs ≡ at = cc in
+        (h, u ∙ ap (λ (n : ℕ). take n bs) same, length-take-le at bs (omega (arith, same)))
 
-  pub no_room : kept_limit ≤ held + length (fitting held front) → fitting held (front ++ (b ∷ [])) ≡ fitting held front
-  no_room h = take-append-le (kept_limit - held) front (b ∷ []) (omega (arith, length-take (kept_limit - held) front))
+    nowhere : before bs ≡ length bs → ⊥
+    nowhere q =
+        let z : None ≡ Some at = rw (le-ltb (before bs) (length bs) (omega (arith, q))) at e in
+        let zero-one : ◌≡◌ {A = ℕ} 0 1 = cc in
+        omega (arith, zero-one)
 
-pub record Gathering (piece old new : List ℕ) (from held i kept : ℕ) : Type 0 where
-  pub front : List ℕ
-  pub there : i ≡ from + length front
-  pub within : i ≤ length piece
-  pub feeds : has_feed (drop from piece) ≡ has_feed (drop i piece)
-  pub goes : up_to_feed (drop from piece) ≡ front ++ up_to_feed (drop i piece)
-  pub written : new ≡ splice old held (fitting held front)
-  pub count : kept ≡ held + length (fitting held front)
+pub feed-none : (bs : List ℕ) → position (λ b. b == line_feed) bs ≡ None → (has_feed bs ≡ false) × (up_to_feed bs ≡ bs)
+feed-none bs e =
+    let f = before-feed bs in
+    ⊎_elim (λ x. absurd (somewhere x.1)) (λ x. (x.0, f.0 ∙ take_all (before bs) bs (omega (arith, x.1)))) f.1
+  where
+    somewhere : before bs < length bs → ⊥
+    somewhere l =
+        let z : Some (before bs) ≡ None = rw (lt-ltb (before bs) (length bs) l) at e in
+        let zero-one : ◌≡◌ {A = ℕ} 0 1 = cc in
+        omega (arith, zero-one)
 
-pub gathering-start : (piece old : List ℕ) (from held : ℕ) → from ≤ length piece → Gathering piece old old from held from held
-gathering-start piece old from held h =
-    let none : fitting held [] ≡ [] = take-nil (kept_limit - held) in
-    record {
-      front = [];
-      there = omega arith;
-      within = h;
-      feeds = refl;
-      goes = refl;
-      written = sym (splice-none old held) ∙ ap (splice old held) (sym none);
-      count = omega (arith, ap length none);
-    }
+-- a piece from a place on, as it is lent
+pub rest-is : (piece : List ℕ) (from : ℕ) → take (length piece - from) (drop from piece) ≡ drop from piece
+rest-is piece from = take_all (length piece - from) (drop from piece) (omega (arith, length-drop from piece))
 
-module _ {piece old new : List ℕ} {from held i kept : ℕ} (room : held ≤ kept_limit) (long : length old ≡ kept_limit)
-    (g : Gathering piece old new from held i kept) where
-  in-room : held + length (fitting held g.front) ≤ kept_limit
-  in-room = omega (arith, length-take (kept_limit - held) g.front)
+-- what a line has room for
+pub fitting-front : (held : ℕ) (more : List ℕ) → take (min (length more) (kept_limit - held)) more ≡ fitting held more
+fitting-front held more = by (leb (length more) (kept_limit - held)) refl
+  where
+    by : (b : Bool) → leb (length more) (kept_limit - held) ≡ b → take (min (length more) (kept_limit - held)) more ≡ fitting held more
+    by true e =
+        let h = leb-true (length more) (kept_limit - held) e in
+        take_all _ more (omega arith) ∙ sym (take_all (kept_limit - held) more (omega arith))
+    by false e =
+        let h = leb-false (length more) (kept_limit - held) e in
+        ap (λ (n : ℕ). take n more) (omega arith)
 
-  pub gathering-long : length new ≡ length old
-  gathering-long = ap length g.written ∙ length-splice old held (fitting held g.front) (omega (arith, in-room))
-
-  -- the turn's byte, stored or passed over
-  module _ (here : i < length piece) (other : get_or piece i 0 ≡ line_feed → ⊥) where
-    abbrev b : ℕ
-    b = get_or piece i 0
-
-    passed : {new' : List ℕ} {kept' : ℕ} → new' ≡ splice old held (fitting held (g.front ++ (b ∷ []))) →
-        kept' ≡ held + length (fitting held (g.front ++ (b ∷ []))) → Gathering piece old new' from held (i + 1) kept'
-    passed w n =
-        let e = byte-here piece i here other in
-        record {
-          front = g.front ++ (b ∷ []);
-          there = omega (arith, g.there, length-append g.front (b ∷ []));
-          within = omega arith;
-          feeds = g.feeds ∙ e.0;
-          goes = g.goes ∙ ap (λ (l : List ℕ). g.front ++ l) e.1 ∙ sym (append_assoc g.front (b ∷ []) (up_to_feed (drop (i + 1) piece)));
-          written = w;
-          count = n;
-        }
-
-    pub gathering-stored : kept < kept_limit → {new' : List ℕ} {kept' : ℕ} → new' ≡ set new kept b → kept' ≡ kept + 1 →
-        Gathering piece old new' from held (i + 1) kept'
-    gathering-stored h w n =
-        let u = fitting held g.front in
-        let below : held + length u < kept_limit = omega (arith, g.count) in
-        let more = still-fits held room g.front b below in
-        passed
-        (w ∙ ap₂ (λ (l : List ℕ) (k : ℕ). set l k b) g.written g.count ∙ splice-push old held u b (omega arith) ∙ ap (splice old held) (sym more))
-        (omega (arith, n, g.count, ap length more, length-append u (b ∷ [])))
-
-    pub gathering-over : kept_limit ≤ kept → {new' : List ℕ} {kept' : ℕ} → new' ≡ new → kept' ≡ kept →
-        Gathering piece old new' from held (i + 1) kept'
-    gathering-over h w n =
-        let none = no_room held room g.front b (omega (arith, g.count)) in
-        passed (w ∙ g.written ∙ ap (splice old held) (sym none)) (omega (arith, n, g.count, ap length none))
-
-  -- the last byte is passed, or a line feed stands at the place
-  pub gathering-done : (w : Bool) (next : ℕ) → next ≡ line_end w i → (has_feed (drop i piece) ≡ w) × (up_to_feed (drop i piece) ≡ []) →
-      (◌≡◌ {A = Gathered} (record { next = next; held = kept; whole = w }) (gathered (drop from piece) from held))
-      × (new ≡ splice old held (fitting held (up_to_feed (drop from piece))))
-  gathering-done w next n (f, u) =
-      let whole : has_feed (drop from piece) ≡ w = g.feeds ∙ f in
-      let all : up_to_feed (drop from piece) ≡ g.front = g.goes ∙ ap (λ (l : List ℕ). g.front ++ l) u ∙ append-nil g.front in
-      (rw (whole, all, n, g.count, g.there) refl, rw all g.written)
+pub gathered-is : (rest bs : List ℕ) (from held : ℕ) (old : List ℕ) {new : List ℕ} {w : Bool} {up : List ℕ} {next kept : ℕ} → rest ≡ bs →
+    (has_feed rest ≡ w) × (up_to_feed rest ≡ up) →
+    next ≡ line_end w (from + length up) → kept ≡ held + length (fitting held up) → new ≡ splice old held (fitting held up) →
+    (◌≡◌ {A = Gathered} (record { next = next; held = kept; whole = w }) (gathered bs from held))
+    × (new ≡ splice old held (fitting held (up_to_feed bs)))
+gathered-is rest bs from held old e (f, u) n k l =
+    let f' : has_feed bs ≡ _ = ap has_feed (sym e) ∙ f in
+    let u' : up_to_feed bs ≡ _ = ap up_to_feed (sym e) ∙ u in
+    (rw (f', u', n, k) refl, rw u' l)

@@ -10,6 +10,7 @@ use lib.ListN.{length}
 use lib.Seq.{take_all, take-append-le, length-take-le, take-take}
 use borrow.Author.Tests.{leb-true, leb-false}
 use Rattle.model.specs.Frame.{line_bytes}
+use Rattle.model.specs.Refusal.{number}
 use Rattle.model.specs.Run.{State, start, Turn, go, stop, line_turn, refusal_text, line_feed, InputLines, line_front, split, at_end, run, output}
 use Rattle.hex_lines.proofs.Lines.{cut_line}
 use Rattle.pieces.specs.Line.{kept_limit, cut}
@@ -98,10 +99,10 @@ run-cut s l (x ∷ xs) rest = rw (cut_line x, run) (by (λ s'. run-cut s' (suc l
   where
     by : ((s' : State) → run s' (suc l) (map cut xs) (cut rest) ≡ run s' (suc l) xs rest) → (t : Turn) →
         ◌≡◌ {A = List ℕ}
-        (elim t [ go out s' ↦ out ++ run s' (suc l) (map cut xs) (cut rest) | stop n ↦ refusal_text n l ])
-        (elim t [ go out s' ↦ out ++ run s' (suc l) xs rest | stop n ↦ refusal_text n l ])
+        (elim t [ go out s' ↦ out ++ run s' (suc l) (map cut xs) (cut rest) | stop r ↦ refusal_text (number r) l ])
+        (elim t [ go out s' ↦ out ++ run s' (suc l) xs rest | stop r ↦ refusal_text (number r) l ])
     by behind (go out s') = ap (λ (o : List ℕ). out ++ o) (behind s')
-    by behind (stop n) = refl
+    by behind (stop r) = refl
 
 -- Whatever pieces the input comes in, the program prints for the lines that the reader finds what it is to print for the input.
 pub any-split : (pieces : List (List ℕ)) →

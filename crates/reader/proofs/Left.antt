@@ -1,5 +1,6 @@
 -- The lines that are still to come, from a place in a piece with pieces behind it, before and behind one call of `read_on`; and what its
 -- answer says.
+use Rattle.std.specs.declared.ops.ControlFlow.TheVariants.{Continue, Break}
 use Prim.Native.Nat.{ℕ, suc, ◌+◌, ◌-◌, ◌≤◌, ◌<◌}
 use mathlib.Core.Bool.{Bool, true, false, ◌||◌, true≢false}
 use mathlib.Core.List.{List, [], ◌∷◌}
@@ -13,8 +14,7 @@ use Rattle.pieces.specs.Line.{kept_limit, up_to_feed, has_feed, line_end, gather
 use Rattle.pieces.specs.Pieces.{lines_then, feed, feed_all, line_then, together}
 use Rattle.pieces.proofs.Reading.{gather-feeds, gather-held, gather-length}
 use Rattle.reader.specs.declared.Place.{Place}
-use Rattle.reader.specs.declared.Advance.{Advance}
-use Rattle.reader.specs.declared.Advance.TheVariants.{Goes, Stops}
+use Rattle.reader.specs.Reading.{Advance}
 use Rattle.reader.specs.Reading.{last_line, kept_line}
 
 -- the lines still to come, and what stands behind the last of them
@@ -81,13 +81,13 @@ module _ (line piece : List ℕ) (from held : ℕ) (room : held ≤ kept_limit) 
 
 -- what an answer says
 abbrev pub place_in : Advance → Place → Place
-place_in (Goes q next n) p = q
-place_in (Stops n) p = p
+place_in (Continue (q, next, n)) p = q
+place_in (Break n) p = p
 
 abbrev pub next_of : Advance → ℕ
-next_of (Goes q next n) = next
-next_of (Stops n) = 0
+next_of (Continue (q, next, n)) = next
+next_of (Break n) = 0
 
 abbrev pub count_of : Advance → ℕ
-count_of (Goes q next n) = n
-count_of (Stops n) = suc n
+count_of (Continue (q, next, n)) = n
+count_of (Break n) = suc n

@@ -1,8 +1,10 @@
 -- What a run comes to, line by line, and that it is the same over lines that are cut.
+use Rattle.std.specs.declared.ops.ControlFlow.TheVariants.{Continue, Break}
 use Prim.Native.Nat.{ℕ, suc}
 use mathlib.Core.Bool.{Bool, false, ◌||◌}
 use mathlib.Core.List.{List, [], ◌∷◌, map}
 use mathlib.Core.Path.{◌≡◌, refl, ap, ◌∙◌}
+use Rattle.model.specs.declared.Refusal.{Refusal}
 use Rattle.model.specs.Frame.{line_bytes}
 use Rattle.model.specs.Run.{State, start, Turn, go, stop, line_turn, at_end, split, InputLines}
 use Rattle.hex_lines.proofs.Lines.{cut_line}
@@ -10,10 +12,9 @@ use Rattle.pieces.specs.Line.{cut}
 use Rattle.pieces.specs.Pieces.{feed_all, together}
 use Rattle.pieces.proofs.Pieces.{pieces-split}
 use Rattle.frames.specs.declared.Counts.{Counts}
-use Rattle.frames.specs.declared.Printed.TheVariants.{Goes as Taken, Stops as Ended}
-use Rattle.frames.specs.Ran.{Store}
+use Rattle.frames.specs.declared.Store.{Store}
 use Rattle.frames.specs.Step.{TurnIs}
-use Rattle.frames.proofs.Runs.{Holds}
+use Rattle.frames.specs.State.{Stands}
 use Rattle.reader.specs.Reading.{begins_with_r, says_no}
 use Rattle.reader.specs.Fold.{came_to}
 use Rattle.reader.specs.Status.{status, outcome}
@@ -29,21 +30,21 @@ module _ (s : State) (line : ℕ) (bad : Bool) (x : List ℕ) (xs : List (List �
   unfolding status
   status-goes out s' e = rw (status, e) refl
 
-  status-stops : (n : ℕ) → line_turn s line (line_bytes x) ≡ stop n → 2 ≡ status s line bad (x ∷ xs) rest
+  status-stops : (r : Refusal) → line_turn s line (line_bytes x) ≡ stop r → 2 ≡ status s line bad (x ∷ xs) rest
   unfolding status
-  status-stops n e = rw (status, e) refl
+  status-stops r e = rw (status, e) refl
 
-  pub status-stopped : (n : ℕ) (u : Store) (room : List ℕ) (t : Turn) → line_turn s line (line_bytes x) ≡ t →
-      TurnIs t line (Ended n) u.nws u.rws u.cws u.classes u.area room → 2 ≡ status s line bad (x ∷ xs) rest
-  status-stopped n u room (go out s') e h = absurd h
-  status-stopped n u room (stop m) e h = status-stops m e
+  pub status-stopped : (n : ℕ) (u : Store) (t : Turn) → line_turn s line (line_bytes x) ≡ t →
+      TurnIs t line (Break n) u → 2 ≡ status s line bad (x ∷ xs) rest
+  status-stopped n u (go out s') e h = absurd h
+  status-stopped n u (stop m) e h = status-stops m e
 
-  pub status-gone : (j : Counts) (n : ℕ) (u : Store) (room : List ℕ) (to : ℕ) (t : Turn) → line_turn s line (line_bytes x) ≡ t →
-      TurnIs t line (Taken j n) u.nws u.rws u.cws u.classes u.area room →
-      ((s' : State) → Holds j u s' → to ≡ status s' (suc line) (bad || says_no n room) xs rest) → to ≡ status s line bad (x ∷ xs) rest
-  status-gone j n u room to (go text s') e h f =
+  pub status-gone : (j : Counts) (n : ℕ) (u : Store) (to : ℕ) (t : Turn) → line_turn s line (line_bytes x) ≡ t →
+      TurnIs t line (Continue (j, n)) u →
+      ((s' : State) → Stands j u s' → to ≡ status s' (suc line) (bad || says_no n u.room) xs rest) → to ≡ status s line bad (x ∷ xs) rest
+  status-gone j n u to (go text s') e h f =
       f s' h.2 ∙ ap (λ (l : List ℕ). status s' (suc line) (bad || begins_with_r l) xs rest) h.1 ∙ status-goes text s' e
-  status-gone j n u room to (stop m) e h f = absurd h
+  status-gone j n u to (stop m) e h f = absurd h
 
 -- the lines of pieces are cut
 end-cut : (s : State) (l : ℕ) (rest : List ℕ) → at_end s l (cut rest) ≡ at_end s l rest

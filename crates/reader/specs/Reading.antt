@@ -1,4 +1,6 @@
 -- What reading on in a piece of the input comes to.
+use Rattle.std.specs.declared.ops.ControlFlow.{ControlFlow}
+use Rattle.std.specs.declared.ops.ControlFlow.TheVariants.{Continue, Break}
 use Rattle.std.specs.Prelude.{ℕ, suc, min, Bool, true, false, ◌||◌, List, [], ◌∷◌, ◌≡◌, eqb, take, drop}
 use Rattle.model.specs.Frame.{line_bytes}
 use Rattle.model.specs.Run.{State, line_turn}
@@ -6,12 +8,10 @@ use Rattle.laws.specs.Area.{splice}
 use Rattle.pieces.specs.declared.Gathered.{Gathered}
 use Rattle.pieces.specs.Line.{up_to_feed, fitting, gathered}
 use Rattle.frames.specs.declared.Counts.{Counts}
-use Rattle.frames.specs.declared.Printed.TheVariants.{Goes as Taken, Stops as Ended}
+use Rattle.frames.specs.declared.Store.{Store}
 use Rattle.frames.specs.State.{Stands}
 use Rattle.frames.specs.Step.{TurnIs}
 use Rattle.reader.specs.declared.Place.{Place}
-use Rattle.reader.specs.declared.Advance.{Advance}
-use Rattle.reader.specs.declared.Advance.TheVariants.{Goes, Stops}
 
 -- the last number that a line can have
 abbrev pub last_line : ℕ
@@ -39,25 +39,26 @@ behind_line p k bad = record { counts = k; line = next_line p.line; held = 0; re
 abbrev pub kept_line : List ℕ → ℕ → List ℕ → ℕ → List ℕ
 kept_line line held piece from = splice line held (fitting held (up_to_feed (drop from piece)))
 
--- a whole line: its turn, and where to read on
-abbrev pub LineIs : Place → ℕ → List ℕ → State → Advance → List ℕ → List ℕ → List ℕ → List ℕ → List ℕ → List ℕ → Type 0
-LineIs p next digits s (Goes q m n) nws rws cws classes area room =
-    (m ≡ next) × (q ≡ behind_line p q.counts (says_no n room))
-    × TurnIs (line_turn s p.line (line_bytes digits)) p.line (Taken q.counts n) nws rws cws classes area room
-LineIs p next digits s (Stops n) nws rws cws classes area room =
-    TurnIs (line_turn s p.line (line_bytes digits)) p.line (Ended n) nws rws cws classes area room
+-- what reading on comes to: where to go on, at which place in the piece, and how many bytes are printed; or how many are printed of the
+-- refusal that ends the run
+abbrev pub Advance : Type 0
+Advance = ControlFlow ℕ (Place × ℕ × ℕ)
 
-abbrev pub LineTaken : Place → ℕ → List ℕ → List ℕ → List ℕ → List ℕ → List ℕ → List ℕ → Advance → List ℕ → List ℕ → List ℕ → List ℕ → List ℕ → List ℕ → Type 0
-LineTaken p next digits nws rws cws classes area r nws' rws' cws' classes' area' room' =
-    (s : State) → Stands p.counts nws rws cws classes area s → LineIs p next digits s r nws' rws' cws' classes' area' room'
+-- a whole line: its turn, and where to read on
+abbrev pub LineIs : Place → ℕ → List ℕ → State → Advance → Store → Type 0
+LineIs p next digits s (Continue (q, m, n)) t =
+    (m ≡ next) × (q ≡ behind_line p q.counts (says_no n t.room)) × TurnIs (line_turn s p.line (line_bytes digits)) p.line (Continue (q.counts, n)) t
+LineIs p next digits s (Break n) t = TurnIs (line_turn s p.line (line_bytes digits)) p.line (Break n) t
+
+abbrev pub LineTaken : Place → ℕ → List ℕ → Store → Advance → Store → Type 0
+LineTaken p next digits t r u = (s : State) → Stands p.counts t s → LineIs p next digits s r u
 
 -- no line feed: nothing is printed and no table changes; a line feed: the line is taken
-abbrev pub AdvanceIs : Bool → Gathered → Place → State → Advance → List ℕ → List ℕ → List ℕ → List ℕ → List ℕ → List ℕ → List ℕ → Type 0
-AdvanceIs false g p s r line nws rws cws classes area room =
-    (r ≡ Goes (within_line p g.held) g.next 0) × Stands p.counts nws rws cws classes area s
-AdvanceIs true g p s r line nws rws cws classes area room = LineIs p g.next (take g.held line) s r nws rws cws classes area room
+abbrev pub AdvanceIs : Bool → Gathered → Place → State → Advance → List ℕ → Store → Type 0
+AdvanceIs false g p s r line t = (r ≡ Continue ((within_line p g.held), g.next, 0)) × Stands p.counts t s
+AdvanceIs true g p s r line t = LineIs p g.next (take g.held line) s r t
 
-abbrev pub Advanced : Place → List ℕ → ℕ → List ℕ → List ℕ → List ℕ → List ℕ → List ℕ → Advance → List ℕ → List ℕ → List ℕ → List ℕ → List ℕ → List ℕ → List ℕ → Type 0
-Advanced p piece from nws rws cws classes area r line nws' rws' cws' classes' area' room' =
+abbrev pub Advanced : Place → Store → List ℕ → ℕ → Advance → List ℕ → Store → Type 0
+Advanced p t piece from r line u =
     let g = gathered (drop from piece) from p.held in
-    (s : State) → Stands p.counts nws rws cws classes area s → AdvanceIs g.whole g p s r line nws' rws' cws' classes' area' room'
+    (s : State) → Stands p.counts t s → AdvanceIs g.whole g p s r line u

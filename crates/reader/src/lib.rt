@@ -3,11 +3,12 @@
 
 ghost use Rattle.std.specs.Prelude.{◌≡◌, ◌≤◌, length};
 ghost use Rattle.pieces.specs.Line.{kept_limit};
-ghost use Rattle.frames.specs.State.{Running, Lent, frame_room};
+ghost use Rattle.frames.specs.State.{Running, frame_room};
 ghost use Rattle.reader.specs.Reading.{next_line, says_no, within_line, behind_line, kept_line, LineTaken, Advanced};
 
-use frames::{Counts, Printed, turn};
+use frames::{Counts, Store, turn};
 use pieces::gather;
+use std::ops::ControlFlow;
 
 const LETTER_R: u8 = 114;
 
@@ -21,13 +22,9 @@ pub struct Place {
     pub refused: bool,
 }
 
-// What reading on comes to: where the piece is to be read on and how many bytes are printed; or a refusal is printed that ends the
-// run.
-#[derive(Clone, Copy)]
-pub enum Advance {
-    Goes(Place, usize, usize),
-    Stops(usize),
-}
+// What reading on comes to: where the piece is to be read on and how many bytes are printed; or the run breaks off with so many bytes
+// of a refusal.
+pub type Advance = ControlFlow<usize, (Place, usize, usize)>;
 
 // The number of the line after this one. It is held at the last number that there is, which no input reaches.
 fn next_line(line: u64) -> u64
@@ -51,13 +48,7 @@ fn says_no(room: &[u8], printed: usize) -> bool
 fn within(place: Place, held: usize) -> Place
     ensures { result ≡ within_line place held }
 {
-    let counts = place.counts;
-    Place {
-        counts,
-        line: place.line,
-        held,
-        refused: place.refused,
-    }
+    Place { held, ..place }
 }
 
 // The place behind a line that was taken.
@@ -79,28 +70,15 @@ fn take_line(
     next: usize,
     digits: &[u8],
     bytes: &mut [u8],
-    nodes: &mut [u16],
-    rules: &mut [u16],
-    conns: &mut [u16],
-    classes: &mut [u16],
-    area: &mut [u16],
-    room: &mut [u8],
+    store: &mut Store,
 ) -> Advance
-    requires running { Running place.counts nodes.old rules.old conns.old classes.old area.old × Lent nodes.old rules.old conns.old classes.old area.old room.old }
+    requires running { Running place.counts store.old }
     requires frame_room_in_bounds { frame_room ≤ length bytes.old }
-    ensures { LineTaken place next digits.now nodes.old rules.old conns.old classes.old area.old result nodes.new rules.new conns.new classes.new area.new room.new }
+    ensures { LineTaken place next digits.now store.old result store.new }
 {
-    let counts = place.counts;
-    let printed = turn(
-        counts, place.line, digits, bytes, nodes, rules, conns, classes, area, room,
-    );
-    match printed {
-        Printed::Goes(counts, count) => {
-            let bad = says_no(room, count);
-            Advance::Goes(behind(place, counts, bad), next, count)
-        }
-        Printed::Stops(count) => Advance::Stops(count),
-    }
+    let (counts, count) = turn(place.counts, place.line, digits, bytes, store)?;
+    let bad = says_no(&store.room, count);
+    ControlFlow::Continue((behind(place, counts, bad), next, count))
 }
 
 // Reads on in a piece, from a place in it: up to a line feed, and then the line is taken, or to the piece's end.
@@ -110,33 +88,17 @@ pub fn read_on(
     from: usize,
     line: &mut [u8],
     bytes: &mut [u8],
-    nodes: &mut [u16],
-    rules: &mut [u16],
-    conns: &mut [u16],
-    classes: &mut [u16],
-    area: &mut [u16],
-    room: &mut [u8],
+    store: &mut Store,
 ) -> Advance
-    requires running { Running place.counts nodes.old rules.old conns.old classes.old area.old × Lent nodes.old rules.old conns.old classes.old area.old room.old }
+    requires running { Running place.counts store.old }
     requires from_in_bounds { (from ≤ length piece.now) × (place.held ≤ kept_limit) × (length line.old ≡ kept_limit) × (frame_room ≤ length bytes.old) }
-    ensures advanced { Advanced place piece.now from nodes.old rules.old conns.old classes.old area.old result line.new nodes.new rules.new conns.new classes.new area.new room.new }
+    ensures advanced { Advanced place store.old piece.now from result line.new store.new }
     ensures line_after { line.new ≡ kept_line line.old place.held piece.now from }
 {
     let gathered = gather(piece, from, line, place.held);
     let end = gathered.held;
     if !gathered.whole {
-        return Advance::Goes(within(place, end), gathered.next, 0);
+        return ControlFlow::Continue((within(place, end), gathered.next, 0));
     }
-    take_line(
-        place,
-        gathered.next,
-        &line[..end],
-        bytes,
-        nodes,
-        rules,
-        conns,
-        classes,
-        area,
-        room,
-    )
+    take_line(place, gathered.next, &line[..end], bytes, store)
 }

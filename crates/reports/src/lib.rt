@@ -7,7 +7,7 @@ ghost use Rattle.laws.specs.Area.{splice};
 ghost use Rattle.reports.specs.Reports.{number_room, report_room, one_field, two_fields, distance_text};
 
 use letters::{put, put_number};
-use model::Verdict;
+use model::{Rejection, Verdict};
 
 // Room enough for each of them, whatever the numbers.
 pub const REPORT_ROOM: usize = 64;
@@ -52,8 +52,9 @@ pub fn put_verdict(room: &mut [u8], verdict: Verdict) -> usize
     ensures room_after { room.new ≡ splice room.old 0 (verdict_text verdict) }
 {
     match verdict {
-        Verdict::Accepted(terms) => put_one(room, b"accepted ", terms as u64),
-        Verdict::Rejected(number, place) => {
+        Ok(terms) => put_one(room, b"accepted ", terms as u64),
+        Err(Rejection { refusal, place }) => {
+            let number = u16::from(refusal);
             put_two(room, b"rejected ", number as u64, b" term ", place as u64)
         }
     }

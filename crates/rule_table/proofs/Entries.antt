@@ -3,27 +3,27 @@
 use Prim.Native.Nat.{ℕ, zero, suc, ◌+◌, ◌*◌, ◌-◌, ◌≤◌, ◌<◌}
 use mathlib.Core.Bool.{Bool, true, false, not, ◌||◌}
 use mathlib.Core.List.{List, [], ◌∷◌}
-use mathlib.Core.Option.{Option, none, some}
+use mathlib.Core.Option.{Option as Maybe, none, some}
+use Rattle.std.specs.Prelude.{Option, Some, None}
 use mathlib.Core.Path.{◌≡◌, refl, ap, sym, ◌∙◌}
 use native.Mathlib.Decide.{ℕ_discrete}
 use native.Mathlib.Omega.{arith}
 use borrow.Author.Tests.{eq-eqb, ne_eqb, eqb-true, eqb-false, leb-true}
 use lib.Dec.{leb, eqb}
 use lib.ListN.{length, get_or}
+use Rattle.model.specs.declared.Refusal.TheVariants.{TableFull, RuleUnfit}
 use Rattle.model.specs.Limits.{rule_limit}
 use Rattle.model.specs.Pattern.{Patterns, bound}
 use Rattle.model.specs.Judged.{Judged, good, bad, refuse_if}
 use Rattle.model.specs.Rule.{Rule, or_else, listed, is_listed, rule_of, add_rule}
 use Rattle.model.specs.Tables.{only_if, side_at, rule_words, rule_entry, and_add, entries, left_at, right_at}
-use Rattle.rule_table.specs.declared.Listed.{Listed}
-use Rattle.rule_table.specs.declared.Listed.TheVariants.{At, Nowhere}
 use Rattle.rule_table.specs.Entries.{rules_in, listed_if, listed_below}
 use Rattle.rule_table.proofs.Patterns.{none-some}
 use Rattle.rule_table.proofs.Sides.{SideIs, side-is}
 use Rattle.rule_table.proofs.Parts.{rule_from}
 
 -- one turn of the search: the newest entry has the number, or the older ones decide
-pub place_here : (ws : List ℕ) (i x : ℕ) → 0 < i → x ≡ get_or ws ((i - 1) * rule_words) 0 → At (i - 1) ≡ listed_below ws i x
+pub place_here : (ws : List ℕ) (i x : ℕ) → 0 < i → x ≡ get_or ws ((i - 1) * rule_words) 0 → Some (i - 1) ≡ listed_below ws i x
 unfolding listed_below
 place_here ws zero x h e = absurd (omega arith)
 place_here ws (suc i) x h e =
@@ -38,7 +38,7 @@ place-older ws (suc i) x h e =
     let p : suc i - 1 ≡ i = omega arith in
     rw (p, ne_eqb x (get_or ws (i * rule_words) 0) (rw p at e))
 
-pub place_none : (ws : List ℕ) (i x : ℕ) → i ≡ 0 → Nowhere ≡ listed_below ws i x
+pub place_none : (ws : List ℕ) (i x : ℕ) → i ≡ 0 → None ≡ listed_below ws i x
 unfolding listed_below
 place_none ws i x e = rw e
 
@@ -50,9 +50,9 @@ pub record EntryIs (ws : List ℕ) (i : ℕ) (r : Rule) : Type 0 where
   pub right : SideIs ws (i * rule_words + right_at) (get_or ws (i * rule_words + 2) 0) r.right
 
 module _ (ws : List ℕ) (i : ℕ) (r : Rule) where
-  of-sides : i * rule_words + rule_words ≤ length ws → (l : Option Patterns)
+  of-sides : i * rule_words + rule_words ≤ length ws → (l : Maybe Patterns)
       → side_at ws (i * rule_words + left_at) (get_or ws (i * rule_words + 1) 0) ≡ l
-      → (m : Option Patterns) → side_at ws (i * rule_words + right_at) (get_or ws (i * rule_words + 2) 0) ≡ m
+      → (m : Maybe Patterns) → side_at ws (i * rule_words + right_at) (get_or ws (i * rule_words + 2) 0) ≡ m
       → rule_of (get_or ws (i * rule_words) 0) l m ≡ some r → EntryIs ws i r
   of-sides h none p m q e = absurd (none-some e)
   of-sides h (some l) p none q e = absurd (none-some e)
@@ -70,20 +70,20 @@ module _ (ws : List ℕ) (i : ℕ) (r : Rule) where
   entry-is e = of_room _ refl e
 
 -- what adding an entry took
-record AddedRule (older : List Rule) (e : Option Rule) (rs : List Rule) : Type 0 where
+record AddedRule (older : List Rule) (e : Maybe Rule) (rs : List Rule) : Type 0 where
   rule : Rule
   entry : e ≡ some rule
   rules : rule ∷ older ≡ rs
   fresh : is_listed (listed older rule.number) ≡ false
 
-fresh-of : (a b c : Bool) (older rs : List Rule) (r : Rule) → refuse_if a 3 (refuse_if (b || c) 5 (good (r ∷ older))) ≡ good rs
+fresh-of : (a b c : Bool) (older rs : List Rule) (r : Rule) → refuse_if a TableFull (refuse_if (b || c) RuleUnfit (good (r ∷ older))) ≡ good rs
     → (b ≡ false) × (r ∷ older ≡ rs)
 fresh-of true b c older rs r e = let z : ◌≡◌ {A = ℕ} 0 1 = cc in absurd (omega arith)
 fresh-of false true c older rs r e = let z : ◌≡◌ {A = ℕ} 0 1 = cc in absurd (omega arith)
 fresh-of false false true older rs r e = let z : ◌≡◌ {A = ℕ} 0 1 = cc in absurd (omega arith)
 fresh-of false false false older rs r e = (refl, cc)
 
-added : (older : List Rule) (e : Option Rule) (rs : List Rule) → add_rule older e ≡ good rs → AddedRule older e rs
+added : (older : List Rule) (e : Maybe Rule) (rs : List Rule) → add_rule older e ≡ good rs → AddedRule older e rs
 unfolding add_rule
 added older none rs h = let z : ◌≡◌ {A = ℕ} 0 1 = cc in absurd (omega arith)
 added older (some r) rs h =
@@ -139,11 +139,11 @@ entry_at ws (suc n) rs e i h =
     ]
 
 -- the rule of the entry that lists a number
-abbrev pub rule_at : List ℕ → Listed → Option Rule
-rule_at ws (At i) = rule_entry ws i
-rule_at ws Nowhere = none
+abbrev pub rule_at : List ℕ → Option ℕ → Maybe Rule
+rule_at ws (Some i) = rule_entry ws i
+rule_at ws None = none
 
-listed-newest : (ws : List ℕ) (n : ℕ) (r : Rule) (o : Option Rule) (p : Listed) (b : Bool) → rule_entry ws n ≡ some r
+listed-newest : (ws : List ℕ) (n : ℕ) (r : Rule) (o : Maybe Rule) (p : Option ℕ) (b : Bool) → rule_entry ws n ≡ some r
     → o ≡ rule_at ws p → or_else b r o ≡ rule_at ws (listed_if b n p)
 listed-newest ws n r o p true e q = sym e
 listed-newest ws n r o p false e q = q
@@ -162,15 +162,15 @@ listed-place ws x (suc n) rs e =
 
 -- an entry that lists a number has it, and where none does none has it
 module _ (ws : List ℕ) (x n : ℕ) where
-  at-newest : (i : ℕ) (p : Listed) (b : Bool) → eqb x (get_or ws (n * rule_words) 0) ≡ b
-      → (p ≡ At i → (i < n) × (get_or ws (i * rule_words) 0 ≡ x))
-      → listed_if b n p ≡ At i → (i < suc n) × (get_or ws (i * rule_words) 0 ≡ x)
+  at-newest : (i : ℕ) (p : Option ℕ) (b : Bool) → eqb x (get_or ws (n * rule_words) 0) ≡ b
+      → (p ≡ Some i → (i < n) × (get_or ws (i * rule_words) 0 ≡ x))
+      → listed_if b n p ≡ Some i → (i < suc n) × (get_or ws (i * rule_words) 0 ≡ x)
   at-newest i p true e h q = let k : n ≡ i = cc in rw (← k) (omega arith, sym (eqb-true _ _ e))
   at-newest i p false e h q = let r = h q in (omega arith, r.1)
 
-  not-newest : (p : Listed) (b : Bool) → eqb x (get_or ws (n * rule_words) 0) ≡ b
-      → (p ≡ Nowhere → (i : ℕ) → i < n → get_or ws (i * rule_words) 0 ≡ x → ⊥)
-      → listed_if b n p ≡ Nowhere → (i : ℕ) → i < suc n → get_or ws (i * rule_words) 0 ≡ x → ⊥
+  not-newest : (p : Option ℕ) (b : Bool) → eqb x (get_or ws (n * rule_words) 0) ≡ b
+      → (p ≡ None → (i : ℕ) → i < n → get_or ws (i * rule_words) 0 ≡ x → ⊥)
+      → listed_if b n p ≡ None → (i : ℕ) → i < suc n → get_or ws (i * rule_words) 0 ≡ x → ⊥
   not-newest p true e h q i k d = let z : ◌≡◌ {A = ℕ} 0 1 = cc in omega arith
   not-newest p false e h q i k d =
       elim (ℕ_discrete i n) [
@@ -178,12 +178,12 @@ module _ (ws : List ℕ) (x n : ℕ) where
         | no j ↦ h q i (omega arith) d
       ]
 
-pub place_at : (ws : List ℕ) (x n i : ℕ) → listed_below ws n x ≡ At i → (i < n) × (get_or ws (i * rule_words) 0 ≡ x)
+pub place_at : (ws : List ℕ) (x n i : ℕ) → listed_below ws n x ≡ Some i → (i < n) × (get_or ws (i * rule_words) 0 ≡ x)
 unfolding listed_below
 place_at ws x zero i e = let z : ◌≡◌ {A = ℕ} 0 1 = cc in absurd (omega arith)
 place_at ws x (suc n) i e = at-newest ws x n i (listed_below ws n x) _ refl (place_at ws x n i) e
 
-pub place-nowhere : (ws : List ℕ) (x n : ℕ) → listed_below ws n x ≡ Nowhere → (i : ℕ) → i < n → get_or ws (i * rule_words) 0 ≡ x → ⊥
+pub place-nowhere : (ws : List ℕ) (x n : ℕ) → listed_below ws n x ≡ None → (i : ℕ) → i < n → get_or ws (i * rule_words) 0 ≡ x → ⊥
 unfolding listed_below
 place-nowhere ws x zero e i h d = omega arith
 place-nowhere ws x (suc n) e i h d = not-newest ws x n (listed_below ws n x) _ refl (place-nowhere ws x n) e i h d
@@ -195,18 +195,18 @@ pub record Found (ws : List ℕ) (rs : List Rule) (x i : ℕ) : Type 0 where
   pub said : rule_entry ws i ≡ some rule
   pub is : EntryIs ws i rule
 
-pub rule_found : (ws : List ℕ) (n : ℕ) (rs : List Rule) (x i : ℕ) → rules_in ws n ≡ good rs → listed_below ws n x ≡ At i
+pub rule_found : (ws : List ℕ) (n : ℕ) (rs : List Rule) (x i : ℕ) → rules_in ws n ≡ good rs → listed_below ws n x ≡ Some i
     → Found ws rs x i
 rule_found ws n rs x i e p =
     let w = entry_at ws n rs e i (place_at ws x n i p).0 in
     record { rule = w.rule; listed = listed-place ws x n rs e ∙ ap (rule_at ws) p ∙ w.said; said = w.said; is = w.is }
 
-pub rule-nowhere : (ws : List ℕ) (n : ℕ) (rs : List Rule) (x : ℕ) → rules_in ws n ≡ good rs → listed_below ws n x ≡ Nowhere
+pub rule-nowhere : (ws : List ℕ) (n : ℕ) (rs : List Rule) (x : ℕ) → rules_in ws n ≡ good rs → listed_below ws n x ≡ None
     → listed rs x ≡ none
 rule-nowhere ws n rs x e p = listed-place ws x n rs e ∙ ap (rule_at ws) p
 
 -- "each listed once": where an older entry has the number, the newest has another
-newest-apart : (ws : List ℕ) (n : ℕ) (rs : List Rule) → Newest ws n rs → (x i : ℕ) → listed_below ws n x ≡ At i
+newest-apart : (ws : List ℕ) (n : ℕ) (rs : List Rule) → Newest ws n rs → (x i : ℕ) → listed_below ws n x ≡ Some i
     → x ≡ get_or ws (n * rule_words) 0 → ⊥
 newest-apart ws n rs w x i p q =
     let again = ap is_listed (rule_found ws n w.older x i w.before p).listed in
@@ -216,7 +216,7 @@ newest-apart ws n rs w x i p q =
 
 -- so an accepted entry with the number is the one that is found
 pub place-only : (ws : List ℕ) (x n : ℕ) (rs : List Rule) → rules_in ws n ≡ good rs → (i : ℕ) → i < n
-    → get_or ws (i * rule_words) 0 ≡ x → listed_below ws n x ≡ At i
+    → get_or ws (i * rule_words) 0 ≡ x → listed_below ws n x ≡ Some i
 unfolding listed_below
 place-only ws x zero rs e i h d = absurd (omega arith)
 place-only ws x (suc n) rs e i h d =

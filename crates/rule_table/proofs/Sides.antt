@@ -3,9 +3,11 @@
 use Prim.Native.Nat.{ℕ, zero, suc, ◌+◌, ◌*◌, ◌-◌, ◌≤◌, ◌<◌}
 use mathlib.Core.Bool.{Bool, true, false, ◌&&◌, ◌||◌}
 use mathlib.Core.List.{List, [], ◌∷◌}
-use mathlib.Core.Option.{Option, none, some}
+use mathlib.Core.Option.{Option as Maybe, none, some}
+use Rattle.std.specs.Prelude.{Option, Some, None}
 use mathlib.Core.Path.{◌≡◌, refl, ap, sym, subst, ◌∙◌}
 use native.Mathlib.Decide.{ℕ_discrete}
+use native.Mathlib.Numerals.{unary_clauses}
 use native.Mathlib.Omega.{arith}
 use borrow.Author.Tests.{eq-eqb, ne_eqb, eqb-true, le-leb, lt-leb, leb-true, ltb-false, ltb-true}
 use lib.Dec.{leb, ltb, eqb}
@@ -15,8 +17,8 @@ use Rattle.model.specs.Limits.{child_limit, item_limit, variable_limit}
 use Rattle.model.specs.Pattern.{Item, variable, operator, Patterns, count_p, items, NarrowP, read_p, stands, bound}
 use Rattle.model.specs.Rule.{side_if, one_pattern, side}
 use Rattle.model.specs.Tables.{item_front, items_from, side_by, side_at, item_words, side_words}
-use Rattle.rule_table.specs.declared.Slot.{Slot}
-use Rattle.rule_table.specs.declared.Slot.TheVariants.{Variable, Operator, Outside}
+use Rattle.rule_table.specs.declared.Item.{Item as Held}
+use Rattle.rule_table.specs.declared.Item.TheVariants.{Variable, Operator}
 use Rattle.rule_table.specs.Slots.{is_side, item_at, slot_if, slot_of, holds, holds_from, Standing, known, known_from}
 use Rattle.rule_table.proofs.Patterns.{none-some, item_ok, is_row, scan-read, read-items, Fields, narrow-fields, among, all, stands-among, bound_all}
 use Rattle.rule_table.proofs.Slots.{scanned, behind, scan-turn, scan-over, scan-done, operator-small}
@@ -29,14 +31,14 @@ pub record SideIs (ws : List ℕ) (at n : ℕ) (q : Patterns) : Type 0 where
   pub spelled : items_from ws at n ≡ some (items q)
 
 -- what an item in front of others says
-pub record FirstItem (i : Option Item) (r : Option (List Item)) (is : List Item) : Type 0 where
+pub record FirstItem (i : Maybe Item) (r : Maybe (List Item)) (is : List Item) : Type 0 where
   pub item : Item
   pub rest : List Item
   pub first : i ≡ some item
   pub others : r ≡ some rest
   pub joined : item ∷ rest ≡ is
 
-pub first-item : (i : Option Item) (r : Option (List Item)) (is : List Item) → item_front i r ≡ some is → FirstItem i r is
+pub first-item : (i : Maybe Item) (r : Maybe (List Item)) (is : List Item) → item_front i r ≡ some is → FirstItem i r is
 first-item none r is e = absurd (none-some e)
 first-item (some i) none is e = absurd (none-some e)
 first-item (some i) (some js) is e = record { item = i; rest = js; first = refl; others = refl; joined = cc }
@@ -60,14 +62,14 @@ is-side-if : (b : Bool) (q : Patterns) → b ≡ is_side (side_if (b && true) q)
 is-side-if true q = refl
 is-side-if false q = refl
 
-one-pattern : (is : List Item) → length is ≤ item_limit → (r : Option Patterns) → read_p is ≡ r
+one-pattern : (is : List Item) → length is ≤ item_limit → (r : Maybe Patterns) → read_p is ≡ r
     → is_row 1 r ≡ is_side (one_pattern r)
 one-pattern is h none e = refl
 one-pattern is h (some q) e =
     let l = ap length (read-items is q e).spelled in
     rw (le-leb (length (items q)) item_limit (omega arith), eqb-turn 1 (count_p q)) (is-side-if (eqb (count_p q) 1) q)
 
-scan-items : (is : Option (List Item)) → ((js : List Item) → is ≡ some js → length js ≤ item_limit)
+scan-items : (is : Maybe (List Item)) → ((js : List Item) → is ≡ some js → length js ≤ item_limit)
     → scanned is 1 ≡ is_side (side_by true is)
 unfolding side
 scan-items none h = refl
@@ -98,12 +100,12 @@ module _ (ws : List ℕ) (at n : ℕ) (q : Patterns) where
       left true b e = refl
       left false b e = e
 
-  is_read : (is : List Item) → n ≤ item_limit → items_from ws at n ≡ some is → (r : Option Patterns) → read_p is ≡ r
+  is_read : (is : List Item) → n ≤ item_limit → items_from ws at n ≡ some is → (r : Maybe Patterns) → read_p is ≡ r
       → one_pattern r ≡ some q → SideIs ws at n q
   is_read is h s none d e = absurd (none-some e)
   is_read is h s (some r) d e = is_one is h s r d _ refl e
 
-  is-items : (b : Bool) → leb n item_limit ≡ b → (is : Option (List Item)) → items_from ws at n ≡ is → side_by b is ≡ some q
+  is-items : (b : Bool) → leb n item_limit ≡ b → (is : Maybe (List Item)) → items_from ws at n ≡ is → side_by b is ≡ some q
       → SideIs ws at n q
   unfolding side
   is-items false l is s e = absurd (none-some e)
@@ -135,7 +137,7 @@ unfolding items_from holds_from among
 holds-among ws x h zero at is e = let p : [] ≡ is = cc in ap (among x) p
 holds-among ws x h (suc n) at is e =
     let f = first-item (item_at ws at) (items_from ws (at + item_words) n) is e in
-    ap (λ (i : Option Item). holds x (slot_of i) || holds_from ws (at + item_words) n x) f.first
+    ap (λ (i : Maybe Item). holds x (slot_of i) || holds_from ws (at + item_words) n x) f.first
     ∙ ap (λ (b : Bool). holds x (slot_of (some f.item)) || b) (holds-among ws x h n (at + item_words) f.rest f.others)
     ∙ item-holds x f.item f.rest h
     ∙ ap (among x) f.joined
@@ -158,7 +160,7 @@ module _ (on : List Bool) (f : ℕ → Bool) (same : (x : ℕ) → x < variable_
   known-all ws (suc n) at is g e =
       let w = first-item (item_at ws at) (items_from ws (at + item_words) n) is e in
       let k : Fields (w.item ∷ w.rest) = subst Fields (sym w.joined) g in
-      ap (λ (i : Option Item). known on (slot_of i) && known_from on ws (at + item_words) n) w.first
+      ap (λ (i : Maybe Item). known on (slot_of i) && known_from on ws (at + item_words) n) w.first
       ∙ ap (λ (b : Bool). known on (slot_of (some w.item)) && b) (known-all ws n (at + item_words) w.rest k.1 w.others)
       ∙ item-known w.item w.rest k.0
       ∙ ap (all f) w.joined
@@ -171,39 +173,40 @@ known-bound ws a n b m l r on s t h =
     (narrow-fields r t.narrow) t.spelled
     ∙ sym (bound_all l r)
 
--- where the walk over a side's slots is: it goes on as the whole goes
-pub record Walk (ws : List ℕ) (at n pos left pending : ℕ) : Type 0 where
+-- where the walk over a side's slots is, behind the first k: it goes on as the whole goes
+pub record Walk (ws : List ℕ) (at n k pending : ℕ) : Type 0 where
   pub few : n ≤ item_limit
-  pub room : pos + left * item_words ≤ length ws
-  pub slow : pending + left * child_limit ≤ 1 + n * child_limit
-  pub goes : scanned (items_from ws pos left) pending ≡ is_side (side_at ws at n)
+  pub room : at + side_words ≤ length ws
+  pub slow : pending ≤ 1 + k * child_limit
+  pub goes : scanned (items_from ws (at + item_words * k) (n - k)) pending ≡ is_side (side_at ws at n)
 
-pub walk_start : (ws : List ℕ) (at n : ℕ) → n ≤ item_limit → at + side_words ≤ length ws → Walk ws at n at n 1
-walk_start ws at n h r = record { few = h; room = omega arith; slow = omega arith; goes = scan-side ws at n h }
+pub walk_start : (ws : List ℕ) (at n : ℕ) → n ≤ item_limit → at + side_words ≤ length ws → Walk ws at n 0 1
+walk_start ws at n h r = record { few = h; room = r; slow = omega arith; goes = simp unary_clauses (scan-side ws at n h) }
 
-module _ (ws : List ℕ) (at n pos left pending : ℕ) (w : Walk ws at n pos left pending) where
-  pub walk-over : 0 < left → pending ≡ 0 → false ≡ is_side (side_at ws at n)
-  walk-over h e = sym (scan-over ws pos left pending h e) ∙ w.goes
+module _ (ws : List ℕ) (at n k pending : ℕ) (w : Walk ws at n k pending) where
+  pub walk-over : k < n → pending ≡ 0 → false ≡ is_side (side_at ws at n)
+  walk-over h e = sym (scan-over ws at n k h pending e) ∙ w.goes
 
-  pub walk-done : left ≡ 0 → eqb pending 0 ≡ is_side (side_at ws at n)
-  walk-done e = sym (scan-done ws pos left pending e) ∙ w.goes
+  pub walk-done : n ≡ k → eqb pending 0 ≡ is_side (side_at ws at n)
+  walk-done e = sym (scan-done ws (at + item_words * k) (n - k) pending (omega arith)) ∙ w.goes
 
   -- one slot, by what it holds
-  turn : (s : Slot) → slot_of (item_at ws pos) ≡ s → 0 < left → 0 < pending
-      → behind s (items_from ws (pos + item_words) (left - 1)) (pending - 1) ≡ is_side (side_at ws at n)
-  turn s e h k =
-      ap (λ (x : Slot). behind x (items_from ws (pos + item_words) (left - 1)) (pending - 1)) (sym e) ∙ sym (scan-turn ws pos left pending h k)
+  turn : (s : Option Held) → slot_of (item_at ws (at + item_words * k)) ≡ s → k < n → 0 < pending
+      → behind s (items_from ws (at + item_words * (k + 1)) (n - (k + 1))) (pending - 1) ≡ is_side (side_at ws at n)
+  turn s e h l =
+      ap (λ (x : Option Held). behind x (items_from ws (at + item_words * (k + 1)) (n - (k + 1))) (pending - 1)) (sym e)
+      ∙ sym (scan-turn ws at n k h pending l)
       ∙ w.goes
 
-  pub walk-variable : (x : ℕ) → slot_of (item_at ws pos) ≡ Variable x → 0 < left → 0 < pending
-      → Walk ws at n (pos + item_words) (left - 1) (pending - 1)
-  walk-variable x e h k = record { few = w.few; room = omega arith; slow = omega arith; goes = turn (Variable x) e h k }
+  pub walk-variable : (x : ℕ) → slot_of (item_at ws (at + item_words * k)) ≡ Some (Variable x) → k < n → 0 < pending
+      → Walk ws at n (k + 1) (pending - 1)
+  walk-variable x e h l = record { few = w.few; room = w.room; slow = omega arith; goes = turn (Some (Variable x)) e h l }
 
-  pub walk-operator : (o : OpNo) (c : ℕ) → slot_of (item_at ws pos) ≡ Operator o c → 0 < left → 0 < pending
-      → Walk ws at n (pos + item_words) (left - 1) (pending - 1 + c)
-  walk-operator o c e h k =
-      let f = operator-small (item_at ws pos) o c e in
-      record { few = w.few; room = omega arith; slow = omega arith; goes = turn (Operator o c) e h k }
+  pub walk-operator : (o : OpNo) (c : ℕ) → slot_of (item_at ws (at + item_words * k)) ≡ Some (Operator o c) → k < n → 0 < pending
+      → Walk ws at n (k + 1) (pending - 1 + c)
+  walk-operator o c e h l =
+      let f = operator-small (item_at ws (at + item_words * k)) o c e in
+      record { few = w.few; room = w.room; slow = omega arith; goes = turn (Some (Operator o c)) e h l }
 
-  pub walk-outside : slot_of (item_at ws pos) ≡ Outside → 0 < left → 0 < pending → false ≡ is_side (side_at ws at n)
-  walk-outside e h k = turn Outside e h k
+  pub walk-outside : slot_of (item_at ws (at + item_words * k)) ≡ None → k < n → 0 < pending → false ≡ is_side (side_at ws at n)
+  walk-outside e h l = turn None e h l

@@ -11,7 +11,7 @@ use lib.Seq.{get_or-take}
 use Rattle.model.specs.Judged.{good}
 use Rattle.model.specs.Rule.{Rule, listed, add_rule}
 use Rattle.model.specs.Tables.{side_words, rule_words, rule_entry, entries_in, and_add, entries, rule_table}
-use Rattle.rule_table.specs.declared.Listed.TheVariants.{At, Nowhere}
+use Rattle.std.specs.Prelude.{Some, None}
 use Rattle.rule_table.specs.Slots.{PatternsAt}
 use Rattle.rule_table.specs.Entries.{rules_in, entry_of, with_entry, where_listed, left_slots, right_slots}
 use Rattle.rule_table.proofs.Parts.{Alike, rule-alike, entry_whole, entry-alone, part-spells}
@@ -26,10 +26,10 @@ table-rules ws rs e =
     rw c at e
 
 -- its rule of a number is the one of the entry that lists it, and where none does there is none
-pub table-found : (ws : List ℕ) (rs : List Rule) (x i : ℕ) → rule_table ws ≡ good rs → where_listed ws x ≡ At i → Found ws rs x i
+pub table-found : (ws : List ℕ) (rs : List Rule) (x i : ℕ) → rule_table ws ≡ good rs → where_listed ws x ≡ Some i → Found ws rs x i
 table-found ws rs x i e p = rule_found ws _ rs x i (table-rules ws rs e) p
 
-pub table-nowhere : (ws : List ℕ) (rs : List Rule) (x : ℕ) → rule_table ws ≡ good rs → where_listed ws x ≡ Nowhere → listed rs x ≡ none
+pub table-nowhere : (ws : List ℕ) (rs : List Rule) (x : ℕ) → rule_table ws ≡ good rs → where_listed ws x ≡ None → listed rs x ≡ none
 table-nowhere ws rs x e p = rule-nowhere ws _ rs x (table-rules ws rs e) p
 
 -- the slots of an entry's sides spell its patterns

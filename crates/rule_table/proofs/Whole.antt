@@ -7,9 +7,9 @@ use native.Mathlib.Decide.{dec_le}
 use native.Mathlib.Omega.{arith}
 use borrow.Author.Tests.{lt-leb}
 use lib.ListN.{length, take, drop, length-take, length-drop}
-use Rattle.model.specs.declared.Judgement.{Judgement}
-use Rattle.model.specs.declared.Judgement.TheVariants.{Taken, Faulty}
-use Rattle.model.specs.Judged.{good, judgement_of}
+use Rattle.std.specs.Prelude.{Ok, Err}
+use Rattle.model.specs.declared.Refusal.{Refusal}
+use Rattle.model.specs.Judged.{good, Judgement, judgement_of}
 use Rattle.model.specs.Rule.{Rule, add_rule}
 use Rattle.model.specs.Tables.{rule_words, rule_entry, entries, rule_table, entries_in}
 use Rattle.laws.proofs.Judging.{taken-good, faulty-bad, first-bad}
@@ -68,7 +68,7 @@ module _ (ws : List ℕ) (pos : ℕ) (g : Judging ws pos) where
   judging-accepted = record { rules = g.rules; are = before ∙ g.are }
 
   -- at the end of the table
-  pub judging-done : length ws ≤ pos → Taken ≡ judgement_of (rule_table ws)
+  pub judging-done : length ws ≤ pos → Ok tt ≡ judgement_of (rule_table ws)
   unfolding rule_table
   judging-done h =
       let c : entries_in rule_words (length ws) ≡ g.count = omega (arith, g.place, judging-room) in
@@ -85,15 +85,14 @@ module _ (ws : List ℕ) (pos : ℕ) (g : Judging ws pos) where
         let p = entry-part ws g.count pos e g.place ends in
         a ∙ rw (before, g.are, p)
 
-    pub judging-next : Answers (take pos ws) part Taken → Judging ws e
+    pub judging-next : Answers (take pos ws) part (Ok tt) → Judging ws (pos + rule_words)
     judging-next a =
-        let t = taken-good (rules_in ws (suc g.count)) (next Taken a) in
-        let r = rules-room ws (suc g.count) t.what t.is in
+        let t = taken-good (rules_in ws (suc g.count)) (next (Ok tt) a) in
         record { count = suc g.count; rules = t.what; are = t.is; place = omega (arith, g.place) }
 
-    pub judging-faulty : (m : ℕ) → Answers (take pos ws) part (Faulty m) → Faulty m ≡ judgement_of (rule_table ws)
+    pub judging-faulty : (m : Refusal) → Answers (take pos ws) part (Err m) → Err m ≡ judgement_of (rule_table ws)
     unfolding rule_table
     judging-faulty m a =
-        let b = faulty-bad (rules_in ws (suc g.count)) m (next (Faulty m) a) in
+        let b = faulty-bad (rules_in ws (suc g.count)) m (next (Err m) a) in
         let more : suc g.count ≤ entries_in rule_words (length ws) = omega (arith, g.place) in
         rw (first-bad add_rule (rule_entry ws) [] (suc g.count) (entries_in rule_words (length ws)) m more b)

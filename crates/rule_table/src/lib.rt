@@ -3,44 +3,34 @@
 // A table's length says how many entries it has.
 #![tactic(auto)]
 
-ghost use Rattle.std.specs.Prelude.{◌≡◌, ◌+◌, ◌*◌, ◌≤◌, min, length};
+ghost use Rattle.std.specs.Prelude.{◌≡◌, ◌+◌, ◌*◌, ◌≤◌, length};
 ghost use Rattle.model.specs.Judged.{judgement_of};
 ghost use Rattle.model.specs.Tables.{item_words, side_words, rule_words, side_at, rule_table};
-ghost use Rattle.rule_table.specs.Slots.{is_side, item_at, slot_of, Standing, known_from};
+ghost use Rattle.rule_table.specs.Slots.{is_side, item_at, slot_of, variable_in, Standing, known_from};
 ghost use Rattle.rule_table.specs.Entries.{AcceptedRules, HasRule, entry_of, with_entry, where_listed, side_slots, left_slots, right_slots};
 
 use model::{
     CHILD_LIMIT, ITEM_LIMIT, ITEM_WORDS, Judgement, LEFT_AT, OpNo, RIGHT_AT, RULE_LIMIT,
-    RULE_WORDS, RuleNo, SIDE_WORDS, VARIABLE_LIMIT, wide,
+    RULE_WORDS, Refusal, RuleNo, SIDE_WORDS, VARIABLE_LIMIT,
 };
 
-// Where a rule number is listed.
+// An item of a pattern: a variable, or an operator with its child count.
 #[derive(Clone, Copy)]
-pub enum Listed {
-    At(usize),
-    Nowhere,
-}
-
-// What an item slot holds: a variable, an operator with its child count, or a field outside its set.
-#[derive(Clone, Copy)]
-pub enum Slot {
+pub enum Item {
     Variable(usize),
     Operator(OpNo, u16),
-    Outside,
 }
 
-// Which entry lists a number: one pass over the numbers, the newest first.
-pub fn find_rule(rules: &[u16], number: RuleNo) -> Listed
+// Which entry lists a number, if one does: one pass over the numbers, the newest first.
+pub fn find_rule(rules: &[u16], number: RuleNo) -> Option<usize>
     ensures { result ≡ where_listed rules.now number.0 }
 {
-    let mut i = rules.len() / RULE_WORDS;
-    while 0 < i {
-        i -= 1;
+    for i in (0..rules.len() / RULE_WORDS).rev() {
         if number.0 == rules[i * RULE_WORDS] {
-            return Listed::At(i);
+            return Some(i);
         }
     }
-    Listed::Nowhere
+    None
 }
 
 // The slots of a side of entry `i`, which begins so many words behind the entry's first.
@@ -54,7 +44,7 @@ fn side_at(rules: &[u16], i: usize, from: usize) -> &[u16]
     &rules[at..end]
 }
 
-// The slots of its left side.
+// The slots of its left side. (Two names for one call: a caller that gave the place itself could give a wrong one.)
 pub fn left_side(rules: &[u16], i: usize) -> &[u16]
     requires { HasRule rules.now i }
     ensures { result.now ≡ left_slots rules.now i }
@@ -70,8 +60,8 @@ pub fn right_side(rules: &[u16], i: usize) -> &[u16]
     side_at(rules, i, RIGHT_AT)
 }
 
-// The one place where an item's three words are read: what the slot at `at` holds, by its kind.
-pub fn slot_at(slots: &[u16], at: usize) -> Slot
+// The one place where an item's three words are read: what the slot at `at` holds, by its kind, or that a field is outside its set.
+pub fn slot_at(slots: &[u16], at: usize) -> Option<Item>
     requires { at + item_words ≤ length slots.now }
     ensures { result ≡ slot_of (item_at slots.now at) }
 {
@@ -80,21 +70,21 @@ pub fn slot_at(slots: &[u16], at: usize) -> Slot
     let count = slots[at + 2];
     match kind {
         0 => {
-            let x = wide(number);
+            let x = usize::from(number);
             if x < VARIABLE_LIMIT {
-                Slot::Variable(x)
+                Some(Item::Variable(x))
             } else {
-                Slot::Outside
+                None
             }
         }
         1 => {
             if count <= CHILD_LIMIT {
-                Slot::Operator(OpNo(number), count)
+                Some(Item::Operator(OpNo(number), count))
             } else {
-                Slot::Outside
+                None
             }
         }
-        _ => Slot::Outside,
+        _ => None,
     }
 }
 
@@ -107,29 +97,37 @@ fn is_side(words: &[u16], at: usize, items: usize) -> bool
     if items > ITEM_LIMIT {
         return false;
     }
-    let mut pos = at;
-    let mut left = items;
     let mut pending: usize = 1;
-    while 0 < left {
+    for k in 0..items {
         if pending == 0 {
             return false;
         }
-        let slot = slot_at(words, pos);
-        match slot {
-            Slot::Variable(_) => {
+        let slot = slot_at(words, at + ITEM_WORDS * k);
+        let Some(item) = slot else {
+            return false;
+        };
+        match item {
+            Item::Variable(_) => {
                 pending -= 1;
             }
-            Slot::Operator(_, count) => {
-                pending = pending - 1 + wide(count);
-            }
-            Slot::Outside => {
-                return false;
+            Item::Operator(_, count) => {
+                pending = pending - 1 + usize::from(count);
             }
         }
-        pos += ITEM_WORDS;
-        left -= 1;
     }
     pending == 0
+}
+
+// The variable that the slot at `at` holds, if it holds one.
+fn variable_at(slots: &[u16], at: usize) -> Option<usize>
+    requires { at + item_words ≤ length slots.now }
+    ensures { result ≡ variable_in (slot_of (item_at slots.now at)) }
+{
+    let item = slot_at(slots, at)?;
+    match item {
+        Item::Variable(x) => Some(x),
+        Item::Operator(_, _) => None,
+    }
 }
 
 // Which of the sixteen variables stand in the first `items` slots from `at` on.
@@ -138,15 +136,11 @@ fn variables(words: &[u16], at: usize, items: usize) -> [bool; VARIABLE_LIMIT]
     ensures { Standing words.now at items result }
 {
     let mut on = [false; VARIABLE_LIMIT];
-    let mut pos = at;
-    let mut left = items;
-    while 0 < left {
-        let slot = slot_at(words, pos);
-        if let Slot::Variable(x) = slot {
+    for k in 0..items {
+        let held = variable_at(words, at + ITEM_WORDS * k);
+        if let Some(x) = held {
             on[x] = true;
         }
-        pos += ITEM_WORDS;
-        left -= 1;
     }
     on
 }
@@ -156,17 +150,13 @@ fn all_known(words: &[u16], at: usize, items: usize, on: [bool; VARIABLE_LIMIT])
     requires { at + items * item_words ≤ length words.now }
     ensures { result ≡ known_from on words.now at items }
 {
-    let mut pos = at;
-    let mut left = items;
-    while 0 < left {
-        let slot = slot_at(words, pos);
-        if let Slot::Variable(x) = slot {
+    for k in 0..items {
+        let held = variable_at(words, at + ITEM_WORDS * k);
+        if let Some(x) = held {
             if !on[x] {
                 return false;
             }
         }
-        pos += ITEM_WORDS;
-        left -= 1;
     }
     true
 }
@@ -177,40 +167,27 @@ pub fn judge_rule(rules: &[u16], entry: &[u16]) -> Judgement
     ensures { result ≡ judgement_of (with_entry rules.now (entry_of entry.now)) }
 {
     if entry.len() != RULE_WORDS {
-        return Judgement::Faulty(2);
+        return Err(Refusal::NoEntry);
     }
-    let left = entry[1] as usize;
-    let right = entry[2] as usize;
+    let left = usize::from(entry[1]);
+    let right = usize::from(entry[2]);
     if !is_side(entry, LEFT_AT, left) {
-        return Judgement::Faulty(2);
+        return Err(Refusal::NoEntry);
     }
     if !is_side(entry, RIGHT_AT, right) {
-        return Judgement::Faulty(2);
+        return Err(Refusal::NoEntry);
     }
     if rules.len() / RULE_WORDS >= RULE_LIMIT {
-        return Judgement::Faulty(3);
+        return Err(Refusal::TableFull);
     }
-    let found = find_rule(rules, RuleNo(entry[0]));
-    if let Listed::At(_) = found {
-        return Judgement::Faulty(5);
+    if find_rule(rules, RuleNo(entry[0])).is_some() {
+        return Err(Refusal::RuleUnfit);
     }
     let on = variables(entry, LEFT_AT, left);
     if !all_known(entry, RIGHT_AT, right, on) {
-        return Judgement::Faulty(5);
+        return Err(Refusal::RuleUnfit);
     }
-    Judgement::Taken
-}
-
-// Where the entry that starts at `pos` ends: an entry's words on, or with the table.
-fn entry_end(len: usize, pos: usize) -> usize
-    requires { pos ≤ len }
-    ensures { result ≡ min (pos + rule_words) len }
-{
-    if len - pos < RULE_WORDS {
-        len
-    } else {
-        pos + RULE_WORDS
-    }
+    Ok(())
 }
 
 // Judges a whole table, each entry behind those before it: the first bad one decides. A part of an entry at the end has the
@@ -219,14 +196,9 @@ pub fn judge_rules(rules: &[u16]) -> Judgement
     ensures { result ≡ judgement_of (rule_table rules.now) }
 {
     let len = rules.len();
-    let mut pos: usize = 0;
-    while pos < len {
-        let end = entry_end(len, pos);
-        let judged = judge_rule(&rules[..pos], &rules[pos..end]);
-        if let Judgement::Faulty(n) = judged {
-            return Judgement::Faulty(n);
-        }
-        pos = end;
+    for pos in (0..len).step_by(RULE_WORDS) {
+        let end = len.min(pos + RULE_WORDS);
+        judge_rule(&rules[..pos], &rules[pos..end])?;
     }
-    Judgement::Taken
+    Ok(())
 }

@@ -4,7 +4,7 @@ use mathlib.Core.Path.{◌≡◌, sym, ap₂, ◌∙◌}
 use mathlib.Core.List.{List}
 use Prim.Native.Nat.{ℕ}
 use contract.Lifetimes.{Lfts}
-use Rattle.model.specs.declared.Judgement.{Judgement}
+use Rattle.model.specs.Judged.{Judgement}
 use Rattle.tables.specs.Grown.{classes_after}
 use Rattle.tables.proofs.take_node.Reads as take-node
 use Rattle.tables.proofs.take_rule.Reads as take-rule

@@ -4,9 +4,9 @@ use mathlib.Core.Bool.{Bool, true, false, not, false≢true}
 use mathlib.Core.Option.{Option, none, some}
 use mathlib.Core.Path.{◌≡◌, refl, sym, ap, ◌∙◌}
 use native.Mathlib.Omega.{arith}
-use Rattle.model.specs.declared.Judgement.{Judgement}
-use Rattle.model.specs.declared.Judgement.TheVariants.{Faulty}
-use Rattle.model.specs.Judged.{Judged, bad, judgement_of}
+use Rattle.std.proofs.Common.{Err}
+use Rattle.model.specs.declared.Refusal.{Refusal}
+use Rattle.model.specs.Judged.{Judged, bad, Judgement, judgement_of}
 use Rattle.laws.specs.Present.{present}
 use Rattle.tables.specs.Grown.{Grown}
 
@@ -24,7 +24,7 @@ module _ {A : Type 0} where
   says_none (some a) e n = absurd (false≢true (sym (ap not e) ∙ n))
 
   -- a refusal, and an entry judged
-  pub grown-bad : {j t : Judged A} {n : ℕ} → j ≡ bad n → Grown j (Faulty n) t
+  pub grown-bad : {j t : Judged A} {r : Refusal} → j ≡ bad r → Grown j (Err r) t
   grown-bad e = record { says = sym (ap judgement_of e); holds = λ p. let z : ◌≡◌ {A = ℕ} 0 1 = cc in absurd (omega arith) }
 
   pub grown : {j j' t : Judged A} {r r' : Judgement} → r ≡ r' → r ≡ judgement_of j' → j' ≡ j → t ≡ j → Grown j r' t

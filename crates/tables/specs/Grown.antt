@@ -1,8 +1,6 @@
 -- What one entry more comes to: the judgement on it, and the table behind it where it was taken.
-use Rattle.std.specs.Prelude.{ℕ, suc, ◌+◌, List, ◌≡◌}
-use Rattle.model.specs.declared.Judgement.{Judgement}
-use Rattle.model.specs.declared.Judgement.TheVariants.{Taken, Faulty}
-use Rattle.model.specs.Judged.{Judged, good, judgement_of}
+use Rattle.std.specs.Prelude.{ℕ, suc, ◌+◌, List, ◌≡◌, Ok, Err}
+use Rattle.model.specs.Judged.{Judged, good, Judgement, judgement_of}
 use Rattle.model.specs.Forest.{cur, nxt}
 use Rattle.model.specs.declared.Connection.{Connection}
 use Rattle.model.specs.Connect.{add_connection}
@@ -16,7 +14,7 @@ use Rattle.connections.specs.Classes.{classes_joined, Sofar}
 
 pub record Grown {A : Type 0} (j : Judged A) (r : Judgement) (table : Judged A) : Type 0 where
   pub says : r ≡ judgement_of j
-  pub holds : r ≡ Taken → table ≡ j
+  pub holds : r ≡ Ok tt → table ≡ j
 
 -- a node, behind accepted ones: what the table held and holds
 pub record NodesHeld (nws : List ℕ) (n : ℕ) : Type 0 where
@@ -44,10 +42,10 @@ ConnectionsGrown nws before bytes age r after =
 
 -- the classes behind an entry: one more connection where it was taken
 abbrev pub classes_after : Judgement → List ℕ → ℕ → List ℕ → List ℕ
-classes_after Taken conns age ws = classes_joined ws (cur (connection_in conns age)) (nxt (connection_in conns age))
-classes_after (Faulty n) conns age ws = ws
+classes_after (Ok u) conns age ws = classes_joined ws (cur (connection_in conns age)) (nxt (connection_in conns age))
+classes_after (Err r) conns age ws = ws
 
 -- and they are the classes of the connections behind it
 abbrev pub Onward : Judgement → List ℕ → List ℕ → List ℕ → ℕ → Type 0
-Onward Taken nws conns classes age = Sofar nws conns classes (age + 1)
-Onward (Faulty n) nws conns classes age = Unit {0}
+Onward (Ok u) nws conns classes age = Sofar nws conns classes (age + 1)
+Onward (Err r) nws conns classes age = Unit {0}

@@ -16,7 +16,7 @@ ghost use Rattle.tables.specs.Grown.{NodesHeld, NodesGrown, RulesHeld, RulesGrow
 
 use connections::{connection_at, join, judge_entry};
 use decode::{put_connection, put_node, put_rule};
-use model::{CONNECTION_WORDS, Judgement, NODE_WORDS, RULE_WORDS};
+use model::{CONNECTION_WORDS, Judgement, NODE_WORDS, RULE_WORDS, Refusal};
 use nodes::judge_node;
 use rule_table::judge_rule;
 
@@ -29,7 +29,7 @@ pub fn take_node(nodes: &mut [u16], n: usize, bytes: &[u8]) -> Judgement
     let at = n * NODE_WORDS;
     let end = at + NODE_WORDS;
     if !put_node(bytes, &mut nodes[at..end]) {
-        return Judgement::Faulty(2);
+        return Err(Refusal::NoEntry);
     }
     judge_node(nodes, n)
 }
@@ -51,7 +51,7 @@ pub fn take_rule(rules: &mut [u16], n: usize, bytes: &[u8]) -> Judgement
     let at = n * RULE_WORDS;
     let end = at + RULE_WORDS;
     if !put_rule(bytes, &mut rules[at..end]) {
-        return Judgement::Faulty(2);
+        return Err(Refusal::NoEntry);
     }
     judge_behind(rules, at, end)
 }
@@ -74,13 +74,10 @@ pub fn take_connection(
     let at = age * CONNECTION_WORDS;
     let end = at + CONNECTION_WORDS;
     if !put_connection(bytes, &mut conns[at..end]) {
-        return Judgement::Faulty(2);
+        return Err(Refusal::NoEntry);
     }
-    let judged = judge_entry(nodes, classes, conns, age);
-    if let Judgement::Faulty(number) = judged {
-        return Judgement::Faulty(number);
-    }
+    judge_entry(nodes, classes, conns, age)?;
     let c = connection_at(conns, age);
     join(classes, c.current, c.next);
-    Judgement::Taken
+    Ok(())
 }

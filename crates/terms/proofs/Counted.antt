@@ -2,15 +2,13 @@
 -- Assumes nothing.
 use Prim.Native.Nat.{ℕ, ◌+◌, ◌*◌, ◌≤◌, ◌<◌}
 use mathlib.Core.List.{List}
-use mathlib.Core.Option.{Option, none, some}
+use mathlib.Core.Option.{Option as Maybe, none, some}
 use mathlib.Core.Path.{◌≡◌, refl, ap, sym, ◌∙◌}
-use native.Mathlib.Nat.{zero-add}
 use native.Mathlib.Omega.{arith}
 use lib.ListN.{length, drop, length-drop, drop_of_length-le}
+use Rattle.std.specs.Prelude.{Option, Some, None}
 use Rattle.model.specs.Limits.{flat_words}
 use Rattle.model.specs.Term.{Terms, no_terms, tree, Term, one, count, join, Narrow, words, Reads, read}
-use Rattle.terms.specs.declared.WholeTerms.{WholeTerms}
-use Rattle.terms.specs.declared.WholeTerms.TheVariants.{Count, Broken}
 use Rattle.terms.specs.Place.{TermAt}
 use Rattle.terms.specs.Whole.{whole_of}
 use Rattle.terms.proofs.Rows.{put-words, one-long}
@@ -18,27 +16,20 @@ use Rattle.terms.proofs.Read.{join_to, read-front, read-words}
 use Rattle.terms.proofs.Place.{term-at, term-drop, term-length}
 
 -- n terms, and those that were read behind them
-abbrev pub count_from : ℕ → Option Terms → WholeTerms
-count_from n none = Broken
-count_from n (some f) = Count (n + count f)
+abbrev pub count_from : ℕ → Maybe Terms → Option ℕ
+count_from n none = None
+count_from n (some f) = Some (n + count f)
 
-none_yet : (r : Option Terms) → count_from 0 r ≡ whole_of r
-none_yet none = refl
-none_yet (some f) = rw zero-add
-
-one_more : (n : ℕ) (t : Term) (r : Option Terms) → count_from (n + 1) r ≡ count_from n (join_to (one t) r)
+one_more : (n : ℕ) (t : Term) (r : Maybe Terms) → count_from (n + 1) r ≡ count_from n (join_to (one t) r)
 unfolding join count
 one_more n t none = refl
-one_more n t (some g) = ap Count (omega arith)
+one_more n t (some g) = ap Some (omega arith)
 
 -- where a walk over the terms is: n are passed, and with those from p on they are what the whole words say
 pub record Counting (ws : List ℕ) (p n : ℕ) : Type 0 where
   pub inside : p ≤ length ws
   pub few : flat_words * n ≤ p
   pub finds : count_from n (read (drop p ws)) ≡ whole_of (read ws)
-
-pub whole-first : (ws : List ℕ) → Counting ws 0 0
-whole-first ws = record { inside = omega arith; few = omega arith; finds = none_yet (read ws) }
 
 -- a term that is passed over is counted
 pub whole-next : (ws : List ℕ) (p n e : ℕ) (t : Term) → TermAt ws p e t → Counting ws p n → Counting ws e (n + 1)
@@ -60,14 +51,14 @@ no-reading ws p d l (tree o m k s) r =
     d _ t (term-at ws p t (words s) (r.narrow.0, r.narrow.1, tt) (r.spelled ∙ put-words t s))
 
 pub whole-broken : (ws : List ℕ) (p n : ℕ) → ((e : ℕ) (t : Term) → TermAt ws p e t → ⊥) → p < length ws → Counting ws p n
-    → Broken ≡ whole_of (read ws)
+    → None ≡ whole_of (read ws)
 whole-broken ws p n d l c = go (read (drop p ws)) refl ∙ c.finds
   where
-    go : (r : Option Terms) → read (drop p ws) ≡ r → Broken ≡ count_from n r
+    go : (r : Maybe Terms) → read (drop p ws) ≡ r → None ≡ count_from n r
     go none e = refl
     go (some f) e = absurd (no-reading ws p d l f (read-words (drop p ws) f e))
 
 -- at the end all are counted
-pub whole-done : (ws : List ℕ) (p n : ℕ) → length ws ≤ p → Counting ws p n → Count n ≡ whole_of (read ws)
+pub whole-done : (ws : List ℕ) (p n : ℕ) → length ws ≤ p → Counting ws p n → Some n ≡ whole_of (read ws)
 unfolding read count
-whole-done ws p n l c = ap Count (omega arith) ∙ sym (ap (λ (x : List ℕ). count_from n (read x)) (drop_of_length-le ws l)) ∙ c.finds
+whole-done ws p n l c = ap Some (omega arith) ∙ sym (ap (λ (x : List ℕ). count_from n (read x)) (drop_of_length-le ws l)) ∙ c.finds

@@ -4,7 +4,7 @@ use mathlib.Core.Bool.{Bool, true, false}
 use mathlib.Core.Path.{◌≡◌, refl, sym, ◌∙◌}
 use contract.Lifetimes.{Lfts}
 use Rattle.terms.specs.declared.TreeNode.{TreeNode}
-use Rattle.terms.specs.declared.WholeTerms.{WholeTerms}
+use Rattle.std.specs.Prelude.{Option}
 use Rattle.terms.specs.Place.{Decides}
 use Rattle.terms.proofs.Place.{end_same}
 use Rattle.terms.proofs.node_at.Reads as node-at
@@ -36,5 +36,5 @@ same-term-only κs a s s' r r' w p q = one_answer r r' _ (p _ _ _ _ w.0.is w.1.i
 same-nodes-only : (κs : Lfts 1) (a s s' : _) (r r' : Bool) → same_nodes.Post κs a r s → same_nodes.Post κs a r' s' → r ≡ r'
 same-nodes-only κs a s s' r r' p q = p ∙ sym q
 
-whole-terms-only : (κs : Lfts 1) (a s s' : _) (r r' : WholeTerms) → whole-terms.Post κs a r s → whole-terms.Post κs a r' s' → r ≡ r'
+whole-terms-only : (κs : Lfts 1) (a s s' : _) (r r' : Option ℕ) → whole-terms.Post κs a r s → whole-terms.Post κs a r' s' → r ≡ r'
 whole-terms-only κs a s s' r r' p q = p ∙ sym q

@@ -3,14 +3,13 @@
 use Prim.Native.Nat.{ℕ, suc, ◌+◌, ◌-◌, ◌*◌, ◌≤◌}
 use mathlib.Core.List.{List, [], ◌∷◌, ◌++◌, append-nil}
 use mathlib.Core.Option.{some}
+use Rattle.std.specs.Prelude.{Option, Some, None}
 use mathlib.Core.Path.{◌≡◌, refl, ap, sym, ◌∙◌}
 use native.Mathlib.Omega.{arith}
 use lib.ListN.{length, take, drop, length-append, length-drop, take-append-drop}
 use lib.Seq.{slice, length-slice, length-take-le, take-add, take-append_seam, take_at, drop_at, drop-append-le, drop-append_seam, drop-drop}
 use Rattle.model.specs.Limits.{flat_words}
 use Rattle.model.specs.Term.{Mark, Terms, no_terms, tree, Term, one, count, join, Narrow, words, mark_word, rule_word, read}
-use Rattle.terms.specs.declared.TermEnd.{TermEnd}
-use Rattle.terms.specs.declared.TermEnd.TheVariants.{At, Broken}
 use Rattle.terms.specs.Place.{node_of, TermAt, RowAt, Well, EndIs}
 use Rattle.terms.proofs.Rows.{count-join, words-join, narrow-join, row_words, one-long, first-words, single, one-term}
 use Rattle.terms.proofs.Read.{read-words, words-inj}
@@ -26,7 +25,7 @@ module _ (ws : List ℕ) (at e : ℕ) (t : Term) (h : TermAt ws at e t) where
       ap (drop at) (sym (take-append-drop e ws)) ∙ drop-append-le at (take e ws) (drop e ws) n
       ∙ ap (λ (l : List ℕ). l ++ drop e ws) h.spelled
 
-  pub scan-term : scan (drop at ws) 1 at ≡ At e
+  pub scan-term : scan (drop at ws) 1 at ≡ Some e
   unfolding count
   scan-term = rw term-drop (scan-words (one t) h.narrow (drop e ws) 0 at ∙ rw (scan-zero, term-length))
 
@@ -66,12 +65,12 @@ front_at ws at e f t q =
     rw (f.end, q)
     (term-at ws at t f.rest (rw q at f.narrow) (f.spelled ∙ ap (λ (x : Terms). words x ++ f.rest) q))
 
-pub end-go : (ws : List ℕ) (at : ℕ) (r : TermEnd) → scan (drop at ws) 1 at ≡ r → EndIs ws at r
-end-go ws at (At e) p =
+pub end-go : (ws : List ℕ) (at : ℕ) (r : Option ℕ) → scan (drop at ws) 1 at ≡ r → EndIs ws at r
+end-go ws at (Some e) p =
     let f = scan-front (drop at ws) 1 at e p in
     let s = single f.terms f.counted in
     record { term = s.term; is = front_at ws at e f s.term s.is }
-end-go ws at Broken p = λ e t h. let q = scan-term ws at e t h in let z : ◌≡◌ {A = ℕ} 0 1 = cc in omega arith
+end-go ws at None p = λ e t h. let q = scan-term ws at e t h in let z : ◌≡◌ {A = ℕ} 0 1 = cc in omega arith
 
 -- the node at a place, from what stands there
 pub record Words (ws : List ℕ) (p a b c d : ℕ) (l : List ℕ) : Type 0 where
@@ -161,7 +160,7 @@ row_fits ws at n f h =
     omega (arith, row_words f, h.counted, length-drop at ws, ap length h.spelled, length-append (words f) h.rest)
 
 -- the rows of as many terms at a place are one
-row-scan : (ws : List ℕ) (at n : ℕ) (f : Terms) → RowAt ws at n f → scan (drop at ws) n at ≡ At (at + length (words f))
+row-scan : (ws : List ℕ) (at n : ℕ) (f : Terms) → RowAt ws at n f → scan (drop at ws) n at ≡ Some (at + length (words f))
 row-scan ws at n f h =
     let c : n ≡ count f + 0 = omega (arith, h.counted) in
     rw (h.spelled, c) (scan-words f h.narrow h.rest 0 at ∙ scan-zero h.rest (at + length (words f)))

@@ -3,8 +3,8 @@
 use Prim.Native.Nat.{ℕ, zero, suc, ◌+◌, ◌-◌, ◌*◌, ◌≤◌, ◌<◌}
 use mathlib.Core.List.{List, [], ◌∷◌, ◌++◌, append_assoc}
 use mathlib.Core.Bool.{Bool, true, false, and-eq-true_iff}
-use mathlib.Core.Option.{Option, none, some}
-use mathlib.Core.Path.{◌≡◌, refl, ap, ◌∙◌}
+use mathlib.Core.Option.{Option as Maybe, none, some}
+use mathlib.Core.Path.{◌≡◌, refl, ap, sym, ◌∙◌}
 use native.Mathlib.Nat.{zero-add, add-zero, suc-add}
 use native.Mathlib.Numerals.{add-one}
 use native.Mathlib.Omega.{arith}
@@ -12,33 +12,32 @@ use borrow.Author.Tests.{le-leb, leb-true}
 use lib.Dec.{leb}
 use lib.ListN.{length, get_or, drop, length-append, length-drop}
 use lib.Seq.{drop-cons}
+use Rattle.std.specs.Prelude.{Option, Some, None}
 use Rattle.model.specs.Limits.{child_limit, flat_words}
 use Rattle.model.specs.Term.{Mark, Terms, no_terms, tree, count, Narrow, mark_word, rule_word, words, mark_of, Cut}
 use Rattle.terms.specs.declared.TreeNode.{TreeNode}
-use Rattle.terms.specs.declared.TermEnd.{TermEnd}
-use Rattle.terms.specs.declared.TermEnd.TheVariants.{At, Broken}
 use Rattle.terms.specs.Place.{node_of, is_some, ok_words, ok_node}
 use Rattle.terms.proofs.Rows.{count-join, words-join, narrow-parts}
 use Rattle.terms.proofs.Read.{mark-words, mark-of, CutIs, has-cut}
 
-abbrev pub end_if : Bool → TermEnd → TermEnd
+abbrev pub end_if : Bool → Option ℕ → Option ℕ
 end_if true e = e
-end_if false e = Broken
+end_if false e = None
 
-abbrev pub stop : ℕ → ℕ → TermEnd
-stop zero at = At at
-stop (suc n) at = Broken
+abbrev pub stop : ℕ → ℕ → Option ℕ
+stop zero at = Some at
+stop (suc n) at = None
 
 -- the walk: from these words on, which stand at the place `at`, n terms are still to be read
-unfoldable pub scan : List ℕ → ℕ → ℕ → TermEnd
+unfoldable pub scan : List ℕ → ℕ → ℕ → Option ℕ
 scan [] n at = stop n at
 scan (o ∷ []) n at = stop n at
 scan (o ∷ c ∷ []) n at = stop n at
 scan (o ∷ c ∷ m ∷ []) n at = stop n at
-scan (o ∷ c ∷ m ∷ r ∷ ws) zero at = At at
+scan (o ∷ c ∷ m ∷ r ∷ ws) zero at = Some at
 scan (o ∷ c ∷ m ∷ r ∷ ws) (suc n) at = end_if (ok_words c m r) (scan ws (c + n) (at + flat_words))
 
-pub scan-zero : (ws : List ℕ) (at : ℕ) → scan ws 0 at ≡ At at
+pub scan-zero : (ws : List ℕ) (at : ℕ) → scan ws 0 at ≡ Some at
 unfolding scan
 scan-zero [] at = refl
 scan-zero (o ∷ []) at = refl
@@ -64,7 +63,7 @@ pub record RowFront (ws : List ℕ) (n at e : ℕ) : Type 0 where
   pub spelled : ws ≡ words terms ++ rest
   pub end : e ≡ at + length (words terms)
 
-at-stop : (ws : List ℕ) (n at e : ℕ) → stop n at ≡ At e → RowFront ws n at e
+at-stop : (ws : List ℕ) (n at e : ℕ) → stop n at ≡ Some e → RowFront ws n at e
 unfolding words Narrow count
 at-stop ws zero at e p =
     let q : at ≡ e = cc in
@@ -77,7 +76,7 @@ record Marked (m r : ℕ) : Type 0 where
   first : mark_word mark ≡ m
   second : rule_word mark ≡ r
 
-marked : (m r : ℕ) (k : Option Mark) → mark_of m r ≡ k → is_some k ≡ true → Marked m r
+marked : (m r : ℕ) (k : Maybe Mark) → mark_of m r ≡ k → is_some k ≡ true → Marked m r
 marked m r none e i = let z : ◌≡◌ {A = ℕ} 0 1 = cc in absurd (omega arith)
 marked m r (some k) e i = let w = mark-of m r k e in record { mark = k; first = w.0; second = w.1 }
 
@@ -98,8 +97,8 @@ node-front o c m r n at e ws l k f p d =
       end = omega (arith, f.end, ap length w);
     }
 
-at-node : (o c m r n at e : ℕ) (ws : List ℕ) (b : Bool) → ok_words c m r ≡ b → end_if b (scan ws (c + n) (at + flat_words)) ≡ At e
-    → (scan ws (c + n) (at + flat_words) ≡ At e → RowFront ws (c + n) (at + flat_words) e) → RowFront (o ∷ c ∷ m ∷ r ∷ ws) (suc n) at e
+at-node : (o c m r n at e : ℕ) (ws : List ℕ) (b : Bool) → ok_words c m r ≡ b → end_if b (scan ws (c + n) (at + flat_words)) ≡ Some e
+    → (scan ws (c + n) (at + flat_words) ≡ Some e → RowFront ws (c + n) (at + flat_words) e) → RowFront (o ∷ c ∷ m ∷ r ∷ ws) (suc n) at e
 at-node o c m r n at e ws false ok p rec = let z : ◌≡◌ {A = ℕ} 0 1 = cc in absurd (omega arith)
 at-node o c m r n at e ws true ok p rec =
     let f = rec p in
@@ -107,7 +106,7 @@ at-node o c m r n at e ws true ok p rec =
     let both = (and-eq-true_iff (leb c child_limit) (is_some (mark_of m r))).0 ok in
     node-front o c m r n at e ws (leb-true c child_limit both.0) (marked m r (mark_of m r) refl both.1) f h.parts h.is
 
-pub scan-front : (ws : List ℕ) (n at e : ℕ) → scan ws n at ≡ At e → RowFront ws n at e
+pub scan-front : (ws : List ℕ) (n at e : ℕ) → scan ws n at ≡ Some e → RowFront ws n at e
 unfolding scan
 scan-front [] n at e p = at-stop [] n at e p
 scan-front (o ∷ []) n at e p = at-stop (o ∷ []) n at e p
@@ -140,7 +139,7 @@ scan_step ws p (suc n) h k =
     let e : (node_of ws p).count + n ≡ suc n - 1 + (node_of ws p).count = omega arith in
     rw (drop-node ws p h, e)
 
-pub turn : (ws : List ℕ) (p n : ℕ) (d : TreeNode) (b : Bool) → p + flat_words ≤ length ws → 0 < n → d ≡ node_of ws p → b ≡ ok_node d
+turn : (ws : List ℕ) (p n : ℕ) (d : TreeNode) (b : Bool) → p + flat_words ≤ length ws → 0 < n → d ≡ node_of ws p → b ≡ ok_node d
     → scan (drop p ws) n p ≡ end_if b (scan (drop (p + flat_words) ws) (n - 1 + d.count) (p + flat_words))
 turn ws p n d b h k e f = rw (f, e) (scan_step ws p n h k)
 
@@ -151,7 +150,7 @@ ok-count d e =
     ((and-eq-true_iff (leb d.count child_limit) (is_some (mark_of d.mark d.rule.0))).0 e).0
 
 -- no node where there is no room for one
-short : (l : List ℕ) (n at : ℕ) → length l < flat_words → 0 < n → scan l n at ≡ Broken
+short : (l : List ℕ) (n at : ℕ) → length l < flat_words → 0 < n → scan l n at ≡ None
 unfolding scan
 short l zero at h k = absurd (omega arith)
 short [] (suc n) at h k = refl
@@ -160,7 +159,7 @@ short (o ∷ c ∷ []) (suc n) at h k = refl
 short (o ∷ c ∷ m ∷ []) (suc n) at h k = refl
 short (o ∷ c ∷ m ∷ r ∷ ws) (suc n) at h k = absurd (omega arith)
 
-pub scan-short : (ws : List ℕ) (p n : ℕ) → length ws - p < flat_words → 0 < n → scan (drop p ws) n p ≡ Broken
+pub scan-short : (ws : List ℕ) (p n : ℕ) → length ws - p < flat_words → 0 < n → scan (drop p ws) n p ≡ None
 scan-short ws p n h k = short (drop p ws) n p (omega (arith, length-drop p ws)) k
 
 -- where a walk from `at` is: n terms are still to be read from pos on, and it finds what the whole walk finds
@@ -168,3 +167,18 @@ pub record Walking (ws : List ℕ) (at pos n : ℕ) : Type 0 where
   pub inside : pos ≤ length ws
   pub few : n + 2 * at ≤ 1 + 2 * pos
   pub finds : scan (drop pos ws) n pos ≡ scan (drop at ws) 1 at
+
+module _ (ws : List ℕ) (at pos n : ℕ) (d : TreeNode) (room : pos + flat_words ≤ length ws) (more : 0 < n) (is : d ≡ node_of ws pos) (h : Walking ws at pos n) where
+  pub walk-next : ok_node d ≡ true → Walking ws at (pos + flat_words) (n - 1 + d.count)
+  walk-next e =
+      record {
+        inside = omega arith;
+        few = omega (arith, h.few, ok-count d e);
+        finds = sym (turn ws pos n d true room more is (sym e)) ∙ h.finds;
+      }
+
+  pub walk-off : ok_node d ≡ false → scan (drop at ws) 1 at ≡ None
+  walk-off e = sym h.finds ∙ turn ws pos n d false room more is (sym e)
+
+pub walk-done : (ws : List ℕ) (at pos n : ℕ) → n ≡ 0 → Walking ws at pos n → scan (drop at ws) 1 at ≡ Some pos
+walk-done ws at pos n e h = sym h.finds ∙ rw e (scan-zero (drop pos ws) pos)

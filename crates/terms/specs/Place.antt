@@ -1,13 +1,11 @@
 -- What stands at a place of the words: a node, a term, a row of terms.
 -- Assumes nothing.
-use Rattle.std.specs.Prelude.{ℕ, zero, suc, ◌+◌, ◌≤◌, List, ◌++◌, Bool, true, false, ◌&&◌, ◌≡◌, length, get_or, drop, leb, eqb}
-use Rattle.std.proofs.Math.Option.{Option, none, some}
+use Rattle.std.specs.Prelude.{ℕ, zero, suc, ◌+◌, ◌≤◌, List, ◌++◌, Bool, true, false, ◌&&◌, ◌≡◌, Option, Some, None, length, get_or, drop, leb, eqb}
+use Rattle.std.proofs.Math.Option.{Option as Maybe, none, some}
 use Rattle.std.proofs.Math.Seq.{slice}
 use Rattle.model.specs.Limits.{child_limit, flat_words}
 use Rattle.model.specs.Term.{Mark, Terms, Term, count, one, stripped, Narrow, words, mark_of, same_op}
 use Rattle.terms.specs.declared.TreeNode.{TreeNode}
-use Rattle.terms.specs.declared.TermEnd.{TermEnd}
-use Rattle.terms.specs.declared.TermEnd.TheVariants.{At, Broken}
 
 -- the four words at a place
 abbrev pub node_of : List ℕ → ℕ → TreeNode
@@ -19,7 +17,7 @@ node_of ws at = record {
 }
 
 -- "count above 8, mark above 2, unmarked node with a rule": none of these
-abbrev pub is_some : Option Mark → Bool
+abbrev pub is_some : Maybe Mark → Bool
 is_some none = false
 is_some (some m) = true
 
@@ -65,9 +63,9 @@ pub record EndsAt (ws : List ℕ) (at e : ℕ) : Type 0 where
   pub is : TermAt ws at e term
 
 -- where the term at `at` ends: at e, or nowhere, since there is none
-abbrev pub EndIs : List ℕ → ℕ → TermEnd → Type 0
-EndIs ws at (At e) = EndsAt ws at e
-EndIs ws at Broken = (e : ℕ) (t : Term) → TermAt ws at e t → ⊥
+abbrev pub EndIs : List ℕ → ℕ → Option ℕ → Type 0
+EndIs ws at (Some e) = EndsAt ws at e
+EndIs ws at None = (e : ℕ) (t : Term) → TermAt ws at e t → ⊥
 
 -- r answers whether P holds
 abbrev pub Decides : Bool → Type 0 → Type 0

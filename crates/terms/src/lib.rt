@@ -8,7 +8,7 @@ ghost use Rattle.model.specs.Term.{read};
 ghost use Rattle.terms.specs.Place.{node_of, ok_node, same_head, same_nodes, Well, EndIs, EndsAt, SameIs};
 ghost use Rattle.terms.specs.Whole.{whole_of};
 
-use model::{CHILD_LIMIT, FLAT_WORDS, OpNo, RuleNo, same_op, wide};
+use model::{CHILD_LIMIT, FLAT_WORDS, OpNo, RuleNo};
 
 // A node's four words.
 #[derive(Clone, Copy)]
@@ -17,20 +17,6 @@ pub struct TreeNode {
     pub count: u16,
     pub mark: u16,
     pub rule: RuleNo,
-}
-
-// Where a term ends.
-#[derive(Clone, Copy)]
-enum TermEnd {
-    At(usize),
-    Broken,
-}
-
-// How many terms words are.
-#[derive(Clone, Copy)]
-pub enum WholeTerms {
-    Count(usize),
-    Broken,
 }
 
 // The one place where a node's words are read.
@@ -53,8 +39,7 @@ fn node_ok(n: TreeNode) -> bool
     if n.count > CHILD_LIMIT {
         return false;
     }
-    let mark = n.mark;
-    match mark {
+    match n.mark {
         0 => n.rule.0 == 0,
         1 | 2 => true,
         _ => false,
@@ -65,46 +50,41 @@ fn node_ok(n: TreeNode) -> bool
 pub fn same_head(n: TreeNode, op: OpNo, count: u16) -> bool
     ensures { result ≡ same_head n op.0 count }
 {
-    if !same_op(n.op, op) {
-        return false;
-    }
-    n.count == count
+    n.op == op && n.count == count
 }
 
-// Where the term at `at` ends, on any words: each node read takes one from the terms still to be read, and adds its children.
-fn subterm_end(words: &[u16], at: usize) -> TermEnd
+// Where the term at `at` ends, on any words, or that there is none: each node read takes one from the terms still to be read, and
+// adds its children.
+fn subterm_end(words: &[u16], at: usize) -> Option<usize>
     ensures { EndIs words.now at result }
 {
     let len = words.len();
     if len < at {
-        return TermEnd::Broken;
+        return None;
     }
     let mut pos = at;
     let mut pending: usize = 1;
+    // No range: how many nodes the term has is known at its end only.
     while 0 < pending {
         if len - pos < FLAT_WORDS {
-            return TermEnd::Broken;
+            return None;
         }
         let n = node_at(words, pos);
         if !node_ok(n) {
-            return TermEnd::Broken;
+            return None;
         }
-        pending = pending - 1 + wide(n.count);
+        pending = pending - 1 + usize::from(n.count);
         pos += FLAT_WORDS;
     }
-    TermEnd::At(pos)
+    Some(pos)
 }
 
-// Where a term that is known to be there ends. So the second arm is never reached.
+// Where a term that is known to be there ends.
 pub fn end_of(words: &[u16], at: usize) -> usize
     requires { Well words.now at }
     ensures { EndsAt words.now at result }
 {
-    let found = subterm_end(words, at);
-    match found {
-        TermEnd::At(e) => e,
-        TermEnd::Broken => at,
-    }
+    subterm_end(words, at).unwrap()
 }
 
 // Whether the terms at `a` and `b` are equal, their marks aside: both are walked at once.
@@ -116,13 +96,14 @@ pub fn same_term(words: &[u16], a: usize, b: usize) -> bool
     let mut i = a;
     let mut j = b;
     let mut pending: usize = 1;
+    // No range: how many nodes the terms have is known at their ends only.
     while 0 < pending {
         let x = node_at(words, i);
         let y = node_at(words, j);
         if !same_head(x, y.op, y.count) {
             return false;
         }
-        pending = pending - 1 + wide(x.count);
+        pending = pending - 1 + usize::from(x.count);
         i += FLAT_WORDS;
         j += FLAT_WORDS;
     }
@@ -135,36 +116,27 @@ pub fn same_nodes(words: &[u16], i: usize, j: usize, count: usize) -> bool
     requires count_in_bounds_2 { j + flat_words * count ≤ length words.now }
     ensures { result ≡ same_nodes words.now i j count }
 {
-    let mut a = i;
-    let mut b = j;
-    let mut left = count;
-    while 0 < left {
-        let x = node_at(words, a);
-        let y = node_at(words, b);
+    for k in 0..count {
+        let x = node_at(words, i + FLAT_WORDS * k);
+        let y = node_at(words, j + FLAT_WORDS * k);
         if !same_head(x, y.op, y.count) {
             return false;
         }
-        a += FLAT_WORDS;
-        b += FLAT_WORDS;
-        left -= 1;
     }
     true
 }
 
 // How many terms the words are, one behind the other, if they are a whole number.
-pub fn whole_terms(words: &[u16]) -> WholeTerms
+pub fn whole_terms(words: &[u16]) -> Option<usize>
     ensures { result ≡ whole_of (read words.now) }
 {
     let len = words.len();
     let mut pos: usize = 0;
     let mut n: usize = 0;
+    // No range: how long each term is is known at its end only.
     while pos < len {
-        let found = subterm_end(words, pos);
-        let TermEnd::At(e) = found else {
-            return WholeTerms::Broken;
-        };
-        pos = e;
+        pos = subterm_end(words, pos)?;
         n += 1;
     }
-    WholeTerms::Count(n)
+    Some(n)
 }

@@ -2,11 +2,9 @@
 use Prim.Native.Nat.{ℕ, suc, ◌+◌, ◌-◌, ◌*◌, ◌≤◌, ◌<◌}
 use native.Mathlib.Omega.{arith}
 use mathlib.Core.Path.{◌≡◌, refl, sym, ap, ap₂, ◌∙◌}
-use mathlib.Core.Bool.{Bool, true, false}
+use mathlib.Core.Bool.{Bool}
 use mathlib.Core.List.{List, [], ◌∷◌, ◌++◌, append_assoc, append-nil}
 use mathlib.Core.Option.{Option, none, some}
-use borrow.Author.Tests.{ltb-true}
-use lib.Dec.{ltb}
 use lib.ListN.{length, get_or, take, drop, length-append, length-drop}
 use lib.Seq.{take_at, drop-drop, drop-append_seam}
 use Rattle.model.specs.Limits.{flat_words}
@@ -18,7 +16,7 @@ use Rattle.terms.proofs.Read.{read-words, reads-read}
 use Rattle.terms.proofs.Place.{term-at, end_same}
 use Rattle.laws.specs.Area.{splice}
 use Rattle.laws.proofs.Area.{splice-none, splice-more, length-splice}
-use Rattle.text.specs.declared.Fit.TheVariants.{Beyond}
+use Rattle.std.proofs.Common.{Some, le-ltb}
 use Rattle.text.specs.Lines.{lines_by, lines_of, SayTerms, SayTerm}
 use Rattle.text.specs.Nodes.{text_len, fit_by, fit_of}
 use Rattle.text.specs.Writing.{emit}
@@ -51,13 +49,10 @@ unfolding bytes
 line-long ws say =
     ap length (line-is ws say) ∙ length-append (emit ws []) (bytes "\n") ∙ ap (λ (k : ℕ). k + 1) (sym (say-length ws say))
 
--- its bytes fit, so that the limit is not passed
-pub line-fits : (ws : List ℕ) (say : SayTerm ws) (at room : ℕ) → at + length (lines_of ws) ≤ room → Beyond ≡ fit_of (text_len 0 ws) room → ⊥
-line-fits ws say at room h e = go (ltb room (text_len 0 ws)) refl e
-  where
-    go : (b : Bool) → ltb room (text_len 0 ws) ≡ b → Beyond ≡ fit_by b (text_len 0 ws) → ⊥
-    go true p q = omega (arith, ltb-true room (text_len 0 ws) p, line-long ws say)
-    go false p q = let z : ◌≡◌ {A = ℕ} 0 1 = cc in omega arith
+-- its bytes fit
+pub line-fits : (ws : List ℕ) (say : SayTerm ws) (at room : ℕ) → at + length (lines_of ws) ≤ room →
+    fit_of (text_len 0 ws) room ≡ Some (text_len 0 ws)
+line-fits ws say at room h = ap (λ (b : Bool). fit_by b (text_len 0 ws)) (le-ltb room (text_len 0 ws) (omega (arith, line-long ws say)))
 
 -- "28 bytes a node": what lets a room be lent that is large enough
 below : (ws : List ℕ) → ((i : ℕ) → i < length ws → get_or ws i 0 < 65536) → flat_words * text_len 1 ws ≤ 28 * length ws

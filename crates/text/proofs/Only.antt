@@ -2,7 +2,7 @@
 use Prim.Native.Nat.{ℕ}
 use mathlib.Core.Path.{◌≡◌, sym, ◌∙◌}
 use contract.Lifetimes.{Lfts}
-use Rattle.model.specs.declared.Printed.{Printed}
+use Rattle.model.specs.Text.{Printed}
 use Rattle.text.proofs.term_text.Reads as term-text
 use Rattle.text.proofs.put_lines.Reads as put-lines
 

@@ -9,15 +9,15 @@ use borrow.Author.Tests.{ltb-false}
 use lib.Dec.{ltb}
 use lib.ListN.{length, take, replicate}
 use lib.Seq.{take_at}
-use Rattle.model.specs.declared.Printed.{Printed}
-use Rattle.model.specs.declared.Printed.TheVariants.{Bytes, NoText}
+use Rattle.model.specs.Text.{Printed}
+use Rattle.std.proofs.Common.{Some, None, Ok, Err}
+use Rattle.model.specs.declared.Refusal.{Refusal}
+use Rattle.model.specs.declared.Refusal.TheVariants.{NoRoom, NoWords, NoTerms}
 use Rattle.model.specs.Term.{Terms, no_terms, tree, one, count, Reads, read}
 use Rattle.model.specs.Text.{text, printed_if, printed, term_text, room_by, room_after}
-use Rattle.terms.specs.declared.WholeTerms.TheVariants.{Count, Broken}
 use Rattle.terms.specs.Whole.{whole_of}
 use Rattle.terms.proofs.Rows.{single}
 use Rattle.terms.proofs.Read.{read-words, reads-read}
-use Rattle.text.specs.declared.Fit.TheVariants.{Within, Beyond}
 use Rattle.text.specs.Lines.{SayTerm}
 use Rattle.text.specs.Nodes.{text_len, fit_by, fit_of, Fine}
 use Rattle.text.specs.Writing.{emit}
@@ -29,7 +29,7 @@ room-is : (ws : List ℕ) (room : ℕ) {p : Printed} {o : Option Terms} → term
 unfolding room_after
 room-is ws room e f = ap₂ (λ (p : Printed) (o : Option Terms). room_by p o room) e f
 
-pub room-refused : (ws : List ℕ) (room n : ℕ) → NoText n ≡ term_text ws room → replicate room 0 ≡ room_after ws room
+pub room-refused : (ws : List ℕ) (room : ℕ) (r : Refusal) → Err r ≡ term_text ws room → replicate room 0 ≡ room_after ws room
 room-refused ws room n e = sym (room-is ws room (sym e) refl)
 
 -- words that say one term
@@ -53,18 +53,18 @@ module _ (ws : List ℕ) (say : SayTerm ws) where
       ∙ ap (λ (n : ℕ). printed_if (ltb room n) n) (sym (say-length ∙ ap length say-emit))
 
   module _ (room : ℕ) where
-    beyond : (b : Bool) (n : ℕ) → Beyond ≡ fit_by b n → NoText 11 ≡ printed_if b n
+    beyond : (b : Bool) (n : ℕ) → None ≡ fit_by b n → Err NoRoom ≡ printed_if b n
     beyond true n e = refl
     beyond false n e = let z : ◌≡◌ {A = ℕ} 0 1 = cc in absurd (omega arith)
 
-    pub print-beyond : Beyond ≡ fit_of (text_len 0 ws) room → NoText 11 ≡ term_text ws room
+    pub print-beyond : None ≡ fit_of (text_len 0 ws) room → Err NoRoom ≡ term_text ws room
     print-beyond e = beyond (ltb room (text_len 0 ws)) (text_len 0 ws) e ∙ sym (print-is room)
 
-    within : (b : Bool) (n k : ℕ) → Within k ≡ fit_by b n → (b ≡ false) × (k ≡ n)
+    within : (b : Bool) (n k : ℕ) → Some k ≡ fit_by b n → (b ≡ false) × (k ≡ n)
     within true n k e = let z : ◌≡◌ {A = ℕ} 0 1 = cc in absurd (omega arith)
     within false n k e = (refl, cc)
 
-    module _ {k : ℕ} (e : Within k ≡ fit_of (text_len 0 ws) room) where
+    module _ {k : ℕ} (e : Some k ≡ fit_of (text_len 0 ws) room) where
       fit : (ltb room (text_len 0 ws) ≡ false) × (k ≡ text_len 0 ws)
       fit = within (ltb room (text_len 0 ws)) (text_len 0 ws) k e
 
@@ -74,7 +74,7 @@ module _ (ws : List ℕ) (say : SayTerm ws) where
       pub within-long : k ≡ length (emit ws [])
       within-long = fit.1 ∙ say-length
 
-      pub print-within : Bytes k ≡ term_text ws room
+      pub print-within : Ok k ≡ term_text ws room
       print-within = sym (print-is room ∙ ap₂ printed_if fit.0 (sym fit.1))
 
       pub room_within : emit ws [] ++ replicate (room - k) 0 ≡ room_after ws room
@@ -93,11 +93,11 @@ module _ (ws : List ℕ) (room : ℕ) where
   unfolding term_text
   text-is e = ap (λ (o : Option Terms). printed o room) e
 
-  unread : (o : Option Terms) → Broken ≡ whole_of o → o ≡ none
+  unread : (o : Option Terms) → None ≡ whole_of o → o ≡ none
   unread none e = refl
   unread (some f) e = let z : ◌≡◌ {A = ℕ} 0 1 = cc in absurd (omega arith)
 
-  pub print-broken : Broken ≡ whole_of (read ws) → NoText 13 ≡ term_text ws room
+  pub print-broken : None ≡ whole_of (read ws) → Err NoTerms ≡ term_text ws room
   unfolding printed
   print-broken e = sym (text-is (unread (read ws) e))
 
@@ -107,32 +107,32 @@ module _ (ws : List ℕ) (room : ℕ) where
     is : o ≡ some row
     many : count row ≡ n
 
-  counted : (n : ℕ) (o : Option Terms) → Count n ≡ whole_of o → Counted n o
+  counted : (n : ℕ) (o : Option Terms) → Some n ≡ whole_of o → Counted n o
   counted n none e = let z : ◌≡◌ {A = ℕ} 0 1 = cc in absurd (omega arith)
   counted n (some f) e = record { row = f; is = refl; many = cc }
 
-  empty : (f : Terms) → count f ≡ 0 → NoText 12 ≡ printed (some f) room
+  empty : (f : Terms) → count f ≡ 0 → Err NoWords ≡ printed (some f) room
   unfolding printed count
   empty no_terms e = refl
   empty (tree o m k s) e = absurd (omega arith)
 
-  several : (f : Terms) → (count f ≡ 0 → ⊥) → (count f ≡ 1 → ⊥) → NoText 13 ≡ printed (some f) room
+  several : (f : Terms) → (count f ≡ 0 → ⊥) → (count f ≡ 1 → ⊥) → Err NoTerms ≡ printed (some f) room
   unfolding printed count
   several no_terms f g = absurd (f refl)
   several (tree o m k no_terms) f g = absurd (g refl)
   several (tree o m k (tree o' m' k' s)) f g = refl
 
-  pub print-empty : {n : ℕ} → Count n ≡ whole_of (read ws) → n ≡ 0 → NoText 12 ≡ term_text ws room
+  pub print-empty : {n : ℕ} → Some n ≡ whole_of (read ws) → n ≡ 0 → Err NoWords ≡ term_text ws room
   print-empty {n} e z =
       let c = counted n (read ws) e in
       empty c.row (c.many ∙ z) ∙ sym (text-is c.is)
 
-  pub print-several : {n : ℕ} → Count n ≡ whole_of (read ws) → (n ≡ 0 → ⊥) → (n ≡ 1 → ⊥) → NoText 13 ≡ term_text ws room
+  pub print-several : {n : ℕ} → Some n ≡ whole_of (read ws) → (n ≡ 0 → ⊥) → (n ≡ 1 → ⊥) → Err NoTerms ≡ term_text ws room
   print-several {n} e f g =
       let c = counted n (read ws) e in
       several c.row (λ z. f (sym c.many ∙ z)) (λ z. g (sym c.many ∙ z)) ∙ sym (text-is c.is)
 
-  pub print-one : {n : ℕ} → Count n ≡ whole_of (read ws) → n ≡ 1 → SayTerm ws
+  pub print-one : {n : ℕ} → Some n ≡ whole_of (read ws) → n ≡ 1 → SayTerm ws
   print-one {n} e z =
       let c = counted n (read ws) e in
       let s = single c.row (c.many ∙ z) in

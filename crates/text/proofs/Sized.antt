@@ -1,15 +1,17 @@
 -- The bytes of a text counted node by node, and held against a limit.
 use Prim.Native.Nat.{ℕ, ◌+◌, ◌-◌, ◌≤◌, ◌<◌}
 use native.Mathlib.Omega.{arith}
-use mathlib.Core.Path.{◌≡◌, sym, ap, ◌∙◌}
+use mathlib.Core.Path.{◌≡◌, refl, sym, ap, ◌∙◌}
+use mathlib.Core.Bool.{Bool, true, false}
 use mathlib.Core.List.{List, [], ◌∷◌}
-use borrow.Author.Tests.{lt-ltb, le-ltb}
+use borrow.Author.Tests.{lt-ltb, le-ltb, ltb-true, ltb-false}
+use lib.Dec.{ltb}
 use lib.ListN.{length, drop, length-drop, drop_of_length-le}
 use Rattle.model.specs.Limits.{child_limit, flat_words}
 use Rattle.terms.specs.declared.TreeNode.{TreeNode}
 use Rattle.terms.specs.Place.{node_of}
 use Rattle.terms.proofs.Walk.{drop-node}
-use Rattle.text.specs.declared.Fit.TheVariants.{Within, Beyond}
+use Rattle.std.proofs.Common.{Some, None}
 use Rattle.text.specs.Nodes.{node_len, text_len, fit_by, fit_of, Fine}
 
 -- fine words that are not at their end have a node, with few children and fine words behind it
@@ -28,6 +30,14 @@ module _ (ws : List ℕ) (pos : ℕ) (fine : Fine (drop pos ws)) (h : pos < leng
   pub fine-node : ((node_of ws pos).count ≤ child_limit) × Fine (drop (pos + flat_words) ws)
   unfolding Fine
   fine-node = rw (drop-node ws pos fine-room) at fine
+
+-- behind the last whole node there is nothing
+pub fine-end : (ws : List ℕ) (pos : ℕ) → Fine (drop pos ws) → length ws < pos + flat_words → length ws ≤ pos
+fine-end ws pos f h = go (ltb pos (length ws)) refl
+  where
+    go : (b : Bool) → ltb pos (length ws) ≡ b → length ws ≤ pos
+    go true e = omega (arith, fine-room ws pos f (ltb-true pos (length ws) e))
+    go false e = ltb-false pos (length ws) e
 
 -- the bytes counted so far, and those left
 pub record Sizing (ws : List ℕ) (limit used before pos : ℕ) : Type 0 where
@@ -60,12 +70,12 @@ module _ {ws : List ℕ} {limit used before pos : ℕ} (s : Sizing ws limit used
             sum = omega (arith, s.sum, counted, found);
           }
 
-      pub sizing-beyond : limit - used < before + len → Beyond ≡ fit_of (text_len 0 ws) limit
+      pub sizing-beyond : limit - used < before + len → None ≡ fit_of (text_len 0 ws) limit
       sizing-beyond q =
           sym (ap (λ (b : _). fit_by b (text_len 0 ws)) (lt-ltb limit (text_len 0 ws) (omega (arith, s.sum, s.held, counted, found))))
 
-  pub sizing-all : length ws ≤ pos → Within used ≡ fit_of (text_len 0 ws) limit
+  pub sizing-all : length ws ≤ pos → Some used ≡ fit_of (text_len 0 ws) limit
   unfolding text_len
   sizing-all h =
       let n : used ≡ text_len 0 ws = omega (arith, s.sum, ap (text_len before) (drop_of_length-le ws h)) in
-      ap Within n ∙ sym (ap (λ (b : _). fit_by b (text_len 0 ws)) (le-ltb limit (text_len 0 ws) (omega (arith, s.held))))
+      ap Some n ∙ sym (ap (λ (b : _). fit_by b (text_len 0 ws)) (le-ltb limit (text_len 0 ws) (omega (arith, s.held))))

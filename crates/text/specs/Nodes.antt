@@ -1,11 +1,9 @@
 -- What each node of a text writes: what stands before its children, and how many bytes it has with the brackets that it closes.
-use Rattle.std.specs.Prelude.{ℕ, zero, suc, ◌+◌, ◌≤◌, Bool, true, false, List, [], ◌∷◌, ◌++◌, ltb, length}
+use Rattle.std.specs.Prelude.{ℕ, zero, suc, ◌+◌, ◌≤◌, Bool, true, false, List, [], ◌∷◌, ◌++◌, ltb, length, Option, Some, None}
 use Rattle.model.specs.declared.Direction.TheVariants.{Forward, Backward}
 use Rattle.model.specs.Limits.{child_limit}
 use Rattle.model.specs.Text.{bytes, digits, mark_name}
 use Rattle.terms.specs.declared.TreeNode.{TreeNode}
-use Rattle.text.specs.declared.Fit.{Fit}
-use Rattle.text.specs.declared.Fit.TheVariants.{Within, Beyond}
 
 -- "(Rewrite=> r7 ": a mark's name with its rule, and so what stands before a node by its mark's word
 abbrev pub mark_by : List ℕ → ℕ → List ℕ
@@ -52,12 +50,12 @@ text_len s (o ∷ c ∷ []) = 0
 text_len s (o ∷ c ∷ m ∷ []) = 0
 text_len s (o ∷ c ∷ m ∷ r ∷ ws) = s + node_len o c m r + text_len 1 ws
 
--- whether so many bytes are within a limit
-abbrev pub fit_by : Bool → ℕ → Fit
-fit_by true n = Beyond
-fit_by false n = Within n
+-- so many bytes, if they are within a limit
+abbrev pub fit_by : Bool → ℕ → Option ℕ
+fit_by true n = None
+fit_by false n = Some n
 
-abbrev pub fit_of : ℕ → ℕ → Fit
+abbrev pub fit_of : ℕ → ℕ → Option ℕ
 fit_of n limit = fit_by (ltb limit n) n
 
 -- whole nodes with no more children than a node may have

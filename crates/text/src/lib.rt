@@ -11,15 +11,8 @@ ghost use Rattle.text.specs.Nodes.{mark_by, mark_head, bracket, head_of, pushed,
 ghost use Rattle.text.specs.Writing.{shut, space, less, Ready, emit, Holds};
 
 use letters::{number_len, put, put_number};
-use model::{FLAT_WORDS, Printed, RuleNo};
-use terms::{TreeNode, WholeTerms, end_of, node_at, whole_terms};
-
-// Whether a text fits: how many bytes it has, if they are within a limit.
-#[derive(Clone, Copy)]
-enum Fit {
-    Within(usize),
-    Beyond,
-}
+use model::{FLAT_WORDS, Printed, Refusal, RuleNo};
+use terms::{TreeNode, end_of, node_at, whole_terms};
 
 // How far a text is written, and where the stack of open brackets starts.
 #[derive(Clone, Copy)]
@@ -53,23 +46,21 @@ fn node_len(n: TreeNode) -> usize
 }
 
 // How many bytes the text of a term has, if they are within a limit. What is left of the limit falls, so that no sum wraps.
-fn text_len(words: &[u16], limit: usize) -> Fit
+fn text_len(words: &[u16], limit: usize) -> Option<usize>
     requires { Fine words.now }
     ensures { result ≡ fit_of (text_len 0 words.now) limit }
 {
     let mut used: usize = 0;
     let mut before: usize = 0;
-    let mut pos: usize = 0;
-    while pos < words.len() {
-        let n = before + node_len(node_at(words, pos));
+    for i in 0..words.len() / FLAT_WORDS {
+        let n = before + node_len(node_at(words, FLAT_WORDS * i));
         if limit - used < n {
-            return Fit::Beyond;
+            return None;
         }
         used += n;
         before = 1;
-        pos += FLAT_WORDS;
     }
-    Fit::Within(used)
+    Some(used)
 }
 
 // Sets every byte from a place on.
@@ -77,12 +68,7 @@ fn fill_from(room: &mut [u8], at: usize, byte: u8)
     requires { at ≤ length room.old }
     ensures { room.new ≡ take at room.old ++ replicate (length room.old - at) byte }
 {
-    let n = room.len() - at;
-    let mut i: usize = 0;
-    while i < n {
-        room[at + i] = byte;
-        i += 1;
-    }
+    room[at..].fill(byte);
 }
 
 // Puts a mark's name and its rule, to be followed by the marked node.
@@ -158,15 +144,13 @@ fn close(room: &mut [u8], at: usize, top: usize) -> usize
     ensures room_after { room.new ≡ splice room.old at (shut (drop top room.old)) }
 {
     let n = room.len() - top;
-    let mut i: usize = 0;
-    while i < n {
+    for i in 0..n {
         if room[top + i] != 0 {
             return i;
         }
         room[at + i] = b')';
-        i += 1;
     }
-    i
+    n
 }
 
 // A term inside a bracket has a space before it, and is no longer to come.
@@ -205,24 +189,14 @@ fn write_term(words: &[u16], room: &mut [u8])
 {
     let mut at: usize = 0;
     let mut top = room.len();
-    let mut pos: usize = 0;
-    while pos < words.len() {
+    for i in 0..words.len() / FLAT_WORDS {
         let closed = close(room, at, top);
-        let pen = open_node(room, at + closed, top + closed, node_at(words, pos));
+        let node = node_at(words, FLAT_WORDS * i);
+        let pen = open_node(room, at + closed, top + closed, node);
         at = pen.at;
         top = pen.top;
-        pos += FLAT_WORDS;
     }
     fill_from(room, at, b')');
-}
-
-// Refuses: the room is all zero.
-fn refuse(room: &mut [u8], number: u16) -> Printed
-    ensures value { result ≡ Printed.NoText number }
-    ensures room_after { room.new ≡ replicate (length room.old) 0 }
-{
-    fill_from(room, 0, 0);
-    Printed::NoText(number)
 }
 
 // The text of words that say one term, if it fits the room; behind it the room is zero.
@@ -231,15 +205,21 @@ fn print_term(words: &[u16], room: &mut [u8]) -> Printed
     ensures value { result ≡ term_text words.now (length room.old) }
     ensures room_after { room.new ≡ room_after words.now (length room.old) }
 {
-    let fit = text_len(words, room.len());
-    match fit {
-        Fit::Beyond => refuse(room, 11),
-        Fit::Within(n) => {
-            write_term(words, &mut room[..n]);
-            fill_from(room, n, 0);
-            Printed::Bytes(n)
-        }
-    }
+    let Some(n) = text_len(words, room.len()) else {
+        return refuse(room, Refusal::NoRoom);
+    };
+    write_term(words, &mut room[..n]);
+    fill_from(room, n, 0);
+    Ok(n)
+}
+
+// Refuses: the room is all zero.
+fn refuse(room: &mut [u8], refusal: Refusal) -> Printed
+    ensures value { result ≡ Err refusal }
+    ensures room_after { room.new ≡ replicate (length room.old) 0 }
+{
+    fill_from(room, 0, 0);
+    Err(refusal)
 }
 
 // The text of one term: the bytes written, or the refusal. Behind a written text the room is zero, and after a refusal all of it,
@@ -248,28 +228,20 @@ pub fn term_text(words: &[u16], room: &mut [u8]) -> Printed
     ensures value { result ≡ term_text words.now (length room.old) }
     ensures room_after { room.new ≡ room_after words.now (length room.old) }
 {
-    let found = whole_terms(words);
-    match found {
-        WholeTerms::Broken => refuse(room, 13),
-        WholeTerms::Count(n) => match n {
-            0 => refuse(room, 12),
-            1 => print_term(words, room),
-            _ => refuse(room, 13),
-        },
+    match whole_terms(words) {
+        Some(0) => refuse(room, Refusal::NoWords),
+        Some(1) => print_term(words, room),
+        _ => refuse(room, Refusal::NoTerms),
     }
 }
 
-// Puts one term on a line of its own. Its bytes fit, so that the limit is never passed.
+// Puts one term on a line of its own. Its bytes fit.
 fn put_line(words: &[u16], room: &mut [u8], at: usize) -> usize
     requires { SayTerm words.now × (at + length (lines_of words.now) ≤ length room.old) }
     ensures value { result ≡ at + length (lines_of words.now) }
     ensures room_after { room.new ≡ splice room.old at (lines_of words.now) }
 {
-    let fit = text_len(words, room.len());
-    let Fit::Within(n) = fit else {
-        return at;
-    };
-    let end = at + n;
+    let end = at + text_len(words, room.len()).unwrap();
     write_term(words, &mut room[at..end]);
     put(room, end, b"\n")
 }
@@ -282,6 +254,7 @@ pub fn put_lines(words: &[u16], room: &mut [u8], at: usize) -> usize
 {
     let mut end = at;
     let mut pos: usize = 0;
+    // No range: how long each term is is known at its end only.
     while pos < words.len() {
         let next = end_of(words, pos);
         end = put_line(&words[pos..next], room, end);

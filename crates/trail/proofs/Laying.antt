@@ -8,12 +8,13 @@ use native.Mathlib.Omega.{arith}
 use native.Mathlib.Decide.{ℕ_discrete}
 use lib.ListN.{length, take, drop, length-append}
 use lib.Seq.{length-take-le, take-add}
+use Rattle.forest.specs.declared.Row.{Row}
 use Rattle.model.specs.declared.Connection.{Connection}
 use Rattle.model.specs.Limits.{node_limit}
 use Rattle.model.specs.declared.NodeNo.{NodeNo}
 use Rattle.model.specs.Forest.{cur, nxt, root, joined, below, parent_of}
 use Rattle.paths.specs.Meet.{top_of, meet_of}
-use Rattle.paths.specs.declared.Meeting.TheVariants.{At, Nowhere}
+use Rattle.std.specs.Prelude.{Some, None}
 use Rattle.paths.specs.Hangs.{next_of, depth, Forest}
 use Rattle.paths.proofs.Laws.{no-parent, parent-case}
 use Rattle.paths.proofs.Walks.{climb-left, walk-self}
@@ -53,17 +54,17 @@ age-few (c ∷ cs) n =
     elim (ℕ_discrete n (cur c)) [ yes q ↦ omega (arith, age-new c cs n q) | no q ↦ omega (arith, age-old c cs n q, age-few cs n) ]
 
 -- one step of the climb
-record Rung (rows : List ℕ) (cs : List Connection) (n at to up : ℕ) : Type 0 where
+record Rung (rows : List Row) (cs : List Connection) (n at to up : ℕ) : Type 0 where
   inside : up < n
   above : Above cs up to
   falls : depth_in rows up < depth_in rows at
   aged : (0 < age_in rows at) × (age_in rows at ≤ node_limit)
   split : ages rows cs at to ≡ ages_at rows at ++ ages rows cs up to
 
-abbrev age_step : List ℕ → List Connection → (ℕ → ℕ → List ℕ) → Connection → Bool → List ℕ
+abbrev age_step : List Row → List Connection → (ℕ → ℕ → List ℕ) → Connection → Bool → List ℕ
 age_step rows older _ c u = costly (cost_in rows (cur c)) (length older)
 
-module _ {cs : List Connection} {n : ℕ} {rows : List ℕ} (k : Climbs cs n rows) (at to up : ℕ) (h : at < n) (e : at ≡ to → ⊥) (u : up ≡ next_in rows at) where
+module _ {cs : List Connection} {n : ℕ} {rows : List Row} (k : Climbs cs n rows) (at to up : ℕ) (h : at < n) (e : at ≡ to → ⊥) (u : up ≡ next_in rows at) where
   abbrev f : Forest cs
   f = k.rooted.forest
 
@@ -93,18 +94,18 @@ module _ {cs : List Connection} {n : ℕ} {rows : List ℕ} (k : Climbs cs n row
       ]
 
 -- a climb on its way, and what is said of the costly connections passed
-pub record Climb (rows : List ℕ) (cs : List Connection) (n from to at : ℕ) (P : List ℕ → Type 0) : Type 0 where
+pub record Climb (rows : List Row) (cs : List Connection) (n from to at : ℕ) (P : List ℕ → Type 0) : Type 0 where
   pub inside : at < n
   pub above : Above cs at to
   pub done : List ℕ
   pub whole : done ++ ages rows cs at to ≡ ages rows cs from to
   pub so : P done
 
-pub climb-none : {rows : List ℕ} {cs : List Connection} {n from to : ℕ} {P : List ℕ → Type 0} → from < n → Above cs from to → P [] →
+pub climb-none : {rows : List Row} {cs : List Connection} {n from to : ℕ} {P : List ℕ → Type 0} → from < n → Above cs from to → P [] →
     Climb rows cs n from to from P
 climb-none h a p = record { inside = h; above = a; done = []; whole = refl; so = p }
 
-module _ {rows : List ℕ} {cs : List Connection} {n from to at : ℕ} {P : List ℕ → Type 0} (k : Climbs cs n rows) (c : Climb rows cs n from to at P) where
+module _ {rows : List Row} {cs : List Connection} {n from to at : ℕ} {P : List ℕ → Type 0} (k : Climbs cs n rows) (c : Climb rows cs n from to at P) where
   rung : (up : ℕ) → (at ≡ to → ⊥) → up ≡ next_in rows at → Rung rows cs n at to up
   rung up e u = rung-by k at to up c.inside e u c.above.steps c.above.enough c.above.leads
 
@@ -160,14 +161,14 @@ splice-under old at u v h =
     ∙ ap (λ (l : List ℕ). take at old ++ l) (sym (append_assoc u v rest))
     ∙ ap (λ (k : ℕ). take at old ++ ((u ++ v) ++ drop k old)) both
 
-pub back_one : (rows : List ℕ) (n : ℕ) (l : List ℕ) → reverse (l ++ ages_at rows n) ≡ ages_at rows n ++ reverse l
+pub back_one : (rows : List Row) (n : ℕ) (l : List ℕ) → reverse (l ++ ages_at rows n) ≡ ages_at rows n ++ reverse l
 back_one rows n l = reverse-append l (ages_at rows n) ∙ ap (λ (x : List ℕ). x ++ reverse l) (same (cost_in rows n))
   where
     same : (k : ℕ) → reverse (costly k (age_in rows n - 1)) ≡ costly k (age_in rows n - 1)
     same zero = refl
     same (suc k) = refl
 
-module _ (rows : List ℕ) (n : ℕ) where
+module _ (rows : List Row) (n : ℕ) where
   pub ages-none : cost_in rows n ≡ 0 → ages_at rows n ≡ []
   ages-none e = rw e
 
@@ -179,15 +180,15 @@ module _ (rows : List ℕ) (n : ℕ) where
       go (suc k) e = rw e
 
 -- both climbs end where the path turns
-pub top-at : (cs : List Connection) (l r : ℕ) {t : NodeNo} → At t ≡ meet_of cs l r → t.0 ≡ top_of cs l r
+pub top-at : (cs : List Connection) (l r : ℕ) {t : NodeNo} → Some t ≡ meet_of cs l r → t.0 ≡ top_of cs l r
 unfolding meet_of
 top-at cs l r {t} e = go (joined cs l r) refl
   where
     go : (b : Bool) → joined cs l r ≡ b → t.0 ≡ top_of cs l r
-    go true q = let p : At t ≡ At (record { 0 = top_of cs l r }) = e ∙ rw q in let s : t ≡ record { 0 = top_of cs l r } = cc in ap (λ (x : NodeNo). x.0) s
-    go false q = let z : At t ≡ Nowhere = e ∙ rw q in let y : ◌≡◌ {A = ℕ} 0 1 = cc in absurd (omega arith)
+    go true q = let p : Some t ≡ Some (record { 0 = top_of cs l r }) = e ∙ rw q in let s : t ≡ record { 0 = top_of cs l r } = cc in ap (λ (x : NodeNo). x.0) s
+    go false q = let z : Some t ≡ None = e ∙ rw q in let y : ◌≡◌ {A = ℕ} 0 1 = cc in absurd (omega arith)
 
-pub laid_out : {rows : List ℕ} {cs : List Connection} {trail : List ℕ} {used l r : ℕ} {after : List ℕ} {turn top t : ℕ} → t ≡ top_of cs l r →
+pub laid_out : {rows : List Row} {cs : List Connection} {trail : List ℕ} {used l r : ℕ} {after : List ℕ} {turn top t : ℕ} → t ≡ top_of cs l r →
     after ≡ splice trail used (ages rows cs r t ++ reverse (ages rows cs l t)) → turn ≡ used + length (ages rows cs r t) →
     top ≡ turn + length (ages rows cs l t) → LaidOut rows cs trail used l r after turn top
 laid_out {rows} {cs} {trail} {used} {l} {r} {turn = turn} e a b d =

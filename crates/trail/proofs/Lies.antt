@@ -9,6 +9,7 @@ use borrow.Author.Tests.{le-leb, lt-leb}
 use lib.Dec.{leb}
 use lib.ListN.{length, get_or, take, length-append, get_or-append}
 use lib.Seq.{get_or-take, get_or-append-add}
+use Rattle.forest.specs.declared.Row.{Row}
 use Rattle.model.specs.declared.Connection.{Connection}
 use Rattle.model.specs.Forest.{cur, root, Parent, top as highest, below, parent_of}
 use Rattle.paths.specs.Hangs.{next_of, Forest}
@@ -133,7 +134,7 @@ laid-lies trail used ds us h =
     ap (λ (k : ℕ). get_or t k 0) (omega arith) ∙ at (length ds + i) (omega arith) ∙ get_or-append-add ds (reverse us) i 0))
 
 -- The legs of a path are those of the two climbs.
-module _ (rows : List ℕ) where
+module _ (rows : List Row) where
   abbrev leg_step : List Connection → (ℕ → ℕ → List Leg) → Connection → Bool → List Leg
   leg_step older _ c u = costly (cost_in rows (cur c)) (record { age = length older; up = u })
 

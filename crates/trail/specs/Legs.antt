@@ -1,4 +1,5 @@
 -- The costly connections of a path, by their ages.
+use Rattle.forest.specs.declared.Row.{Row}
 use Rattle.std.specs.Prelude.{ℕ, zero, suc, Bool, List, [], ◌∷◌, ◌++◌, length}
 use Rattle.model.specs.declared.Connection.{Connection}
 use Rattle.model.specs.Forest.{cur, walk}
@@ -16,10 +17,10 @@ module _ {A : Type 0} where
   costly (suc k) a = a ∷ []
 
 -- the costly connections of a path; their ages alone
-unfoldable pub legs : List ℕ → List Connection → ℕ → ℕ → List Leg
+unfoldable pub legs : List Row → List Connection → ℕ → ℕ → List Leg
 unfolding walk
 legs rows = walk [] ◌++◌ (λ older _ c u. costly (cost_in rows (cur c)) (record { age = length older; up = u }))
 
-unfoldable pub ages : List ℕ → List Connection → ℕ → ℕ → List ℕ
+unfoldable pub ages : List Row → List Connection → ℕ → ℕ → List ℕ
 unfolding walk
 ages rows = walk [] ◌++◌ (λ older _ c u. costly (cost_in rows (cur c)) (length older))

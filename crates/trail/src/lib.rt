@@ -11,9 +11,8 @@ ghost use Rattle.laws.specs.Area.{splice};
 ghost use Rattle.trail.specs.Legs.{ages};
 ghost use Rattle.trail.specs.Laid.{ages_at, Rising, Layable, LaidOut};
 
-use forest::{TABLE_WORDS, age_of, cost_of, meet, next_of};
-use model::{NodeNo, TERM_LIMIT, wide};
-use paths::Meeting;
+use forest::{Row, age_of, cost_of, meet, next_of};
+use model::{NODE_LIMIT, NodeNo, TERM_LIMIT};
 
 // A path on the trail: the connections at `turn` and above are walked up, those below it down.
 #[derive(Clone, Copy)]
@@ -27,11 +26,11 @@ pub fn age_on(trail: &[u16; TERM_LIMIT], at: usize) -> usize
     requires { at < term_limit }
     ensures { result ≡ get_or trail.now at 0 }
 {
-    wide(trail[at])
+    usize::from(trail[at])
 }
 
 // Whether a node's parent connection is to be walked, as a count.
-fn legs_at(rows: &[u16; TABLE_WORDS], n: NodeNo) -> usize
+fn legs_at(rows: &[Row; NODE_LIMIT], n: NodeNo) -> usize
     requires { n.0 < node_limit }
     ensures { result ≡ length (ages_at rows.now n.0) }
 {
@@ -39,7 +38,7 @@ fn legs_at(rows: &[u16; TABLE_WORDS], n: NodeNo) -> usize
 }
 
 // Lays a node's parent connection on the trail, if it costs anything.
-fn lay(rows: &[u16; TABLE_WORDS], trail: &mut [u16; TERM_LIMIT], at: usize, n: NodeNo)
+fn lay(rows: &[Row; NODE_LIMIT], trail: &mut [u16; TERM_LIMIT], at: usize, n: NodeNo)
     requires { (length trail.old ≡ term_limit) × (n.0 < node_limit) × (0 < age_in rows.now n.0) × (age_in rows.now n.0 ≤ node_limit) × (at + length (ages_at rows.now n.0) ≤ term_limit) }
     ensures { trail.new ≡ splice trail.old at (ages_at rows.now n.0) }
 {
@@ -49,14 +48,16 @@ fn lay(rows: &[u16; TABLE_WORDS], trail: &mut [u16; TERM_LIMIT], at: usize, n: N
     trail[at] = (age_of(rows, n) - 1) as u16;
 }
 
-// How many connections the climb from a node to one above it lays.
-fn count_legs(rows: &[u16; TABLE_WORDS], from: NodeNo, to: NodeNo) -> usize
+// How many connections the climb from a node to one above it lays. One function for this, lay_down and lay_up is no plainer: each step
+// writes nothing, above what was laid, or below it.
+fn count_legs(rows: &[Row; NODE_LIMIT], from: NodeNo, to: NodeNo) -> usize
     requires { Rising rows.now from.0 to.0 term_limit }
     ensures { (cs : List Connection) (n : ℕ) → Climbs cs n rows.now → from.0 < n → Above cs from.0 to.0 → result ≡ length (ages rows.now cs from.0 to.0) }
 {
     let mut at = from;
     let mut count: usize = 0;
-    while at.0 != to.0 {
+    // A climb stays a while loop: it has no range, and an iterator of its own is no plainer than `at = next_of(rows, at)`.
+    while at != to {
         count += legs_at(rows, at);
         at = next_of(rows, at);
     }
@@ -65,7 +66,7 @@ fn count_legs(rows: &[u16; TABLE_WORDS], from: NodeNo, to: NodeNo) -> usize
 
 // Lays the climb from a node to one above it from a place on, its last connection highest, and returns where it ends.
 fn lay_down(
-    rows: &[u16; TABLE_WORDS],
+    rows: &[Row; NODE_LIMIT],
     trail: &mut [u16; TERM_LIMIT],
     used: usize,
     from: NodeNo,
@@ -76,7 +77,8 @@ fn lay_down(
 {
     let mut at = from;
     let mut end = used;
-    while at.0 != to.0 {
+    // A while loop as in count_legs.
+    while at != to {
         lay(rows, trail, end, at);
         end += legs_at(rows, at);
         at = next_of(rows, at);
@@ -86,7 +88,7 @@ fn lay_down(
 
 // Lays the climb from a node to one above it below a place, its first connection highest.
 fn lay_up(
-    rows: &[u16; TABLE_WORDS],
+    rows: &[Row; NODE_LIMIT],
     trail: &mut [u16; TERM_LIMIT],
     top: usize,
     from: NodeNo,
@@ -97,7 +99,8 @@ fn lay_up(
 {
     let mut at = from;
     let mut start = top;
-    while at.0 != to.0 {
+    // A while loop as in count_legs.
+    while at != to {
         start -= legs_at(rows, at);
         lay(rows, trail, start, at);
         at = next_of(rows, at);
@@ -106,7 +109,7 @@ fn lay_up(
 
 // Lays the path between two joined nodes on the trail, from `used` on: down to the right, and above that up from the left.
 pub fn lay_path(
-    rows: &[u16; TABLE_WORDS],
+    rows: &[Row; NODE_LIMIT],
     trail: &mut [u16; TERM_LIMIT],
     used: usize,
     left: NodeNo,
@@ -115,16 +118,15 @@ pub fn lay_path(
     requires { (length trail.old ≡ term_limit) × Layable rows.now used left.0 right.0 }
     ensures { (cs : List Connection) (n : ℕ) → Climbs cs n rows.now → left.0 < n → right.0 < n → LaidOut rows.now cs trail.old used left.0 right.0 trail.new result.turn result.top }
 {
-    let m = meet(rows, left, right);
-    match m {
-        Meeting::At(meeting) => {
+    match meet(rows, left, right) {
+        Some(meeting) => {
             let turn = lay_down(rows, trail, used, right, meeting);
             let top = turn + count_legs(rows, left, meeting);
             lay_up(rows, trail, top, left, meeting);
             Route { turn, top }
         }
         // not reached: the two are joined
-        Meeting::Nowhere => Route {
+        None => Route {
             turn: used,
             top: used,
         },

@@ -15,9 +15,7 @@ ghost use Rattle.laws.specs.Area.{splice, part};
 ghost use Rattle.trees.specs.Area.{WholeNodes, bare, root_in, direction_of};
 ghost use Rattle.trees.specs.Sizes.{held_nodes, table_bound, filled_sizes};
 
-use model::{
-    Direction, FLAT_WORDS, NODE_LIMIT, NODE_WORDS, NodeNo, OpNo, RuleNo, WORD_LIMIT, wide,
-};
+use model::{Direction, FLAT_WORDS, NODE_LIMIT, NODE_WORDS, NodeNo, OpNo, RuleNo, WORD_LIMIT};
 use nodes::{child_of, count_of, operator_of};
 use terms::node_at;
 
@@ -36,10 +34,10 @@ pub struct Spot {
 pub fn held(x: usize) -> usize
     ensures { result ≡ held_nodes x }
 {
-    if x < NODE_CAP { x } else { NODE_CAP }
+    x.min(NODE_CAP)
 }
 
-// A number of a table as a count: sums of a few of them never wrap.
+// A number of a table as a count: sums of a few of them never wrap. A cast, since usize is From<u16> and no wider.
 fn wide_number(x: u32) -> usize
     ensures { (result ≡ x) × (result < table_bound) }
 {
@@ -59,7 +57,7 @@ pub fn size_of(sizes: &[u32; NODE_LIMIT], n: NodeNo) -> usize
     requires { n.0 < node_limit }
     ensures { (result ≡ get_or sizes.now n.0 0) × (result < table_bound) }
 {
-    amount(sizes, wide(n.0))
+    amount(sizes, usize::from(n.0))
 }
 
 // How many words a node's tree has.
@@ -77,10 +75,8 @@ pub fn sizes_from(nodes: &[u16], sizes: &[u32; NODE_LIMIT], n: NodeNo, i: usize)
 {
     let count = count_of(nodes, n);
     let mut sum: usize = 0;
-    let mut k = i;
-    while k < count {
+    for k in i..count {
         sum += size_of(sizes, child_of(nodes, n, k));
-        k += 1;
     }
     sum
 }
@@ -91,10 +87,8 @@ pub fn fill_sizes(nodes: &[u16], sizes: &mut [u32; NODE_LIMIT])
     ensures { sizes.new ≡ filled_sizes (nodes_of nodes.now) (length nodes.now / node_words) sizes.old }
 {
     let n = nodes.len() / NODE_WORDS;
-    let mut i: usize = 0;
-    while i < n {
+    for i in 0..n {
         sizes[i] = held(1 + sizes_from(nodes, sizes, NodeNo(i as u16), 0)) as u32;
-        i += 1;
     }
 }
 
@@ -134,10 +128,8 @@ pub fn write_tree(nodes: &[u16], n: NodeNo, area: &mut [u16], at: usize) -> usiz
     put_root(nodes, n, area, at, 0, RuleNo(0));
     let count = count_of(nodes, n);
     let mut end = at + FLAT_WORDS;
-    let mut i: usize = 0;
-    while i < count {
+    for i in 0..count {
         end = write_tree(nodes, child_of(nodes, n, i), area, end);
-        i += 1;
     }
     end
 }
@@ -147,13 +139,10 @@ fn copy_bare(area: &mut [u16], from: usize, to: usize, at: usize)
     requires { (from ≤ to) × (to ≤ at) × WholeNodes (to - from) × (at + (to - from) ≤ length area.old) }
     ensures { area.new ≡ splice area.old at (bare (part area.old from (to - from))) }
 {
-    let mut i = from;
-    let mut j = at;
-    while i < to {
-        let n = node_at(area, i);
-        put_node(area, j, n.op, n.count, 0, RuleNo(0));
-        i += FLAT_WORDS;
-        j += FLAT_WORDS;
+    let count = (to - from) / FLAT_WORDS;
+    for k in 0..count {
+        let n = node_at(area, from + FLAT_WORDS * k);
+        put_node(area, at + FLAT_WORDS * k, n.op, n.count, 0, RuleNo(0));
     }
 }
 
@@ -201,9 +190,5 @@ pub fn clear_from(area: &mut [u16], at: usize)
     requires { at ≤ length area.old }
     ensures { area.new ≡ take at area.old ++ replicate (length area.old - at) 0 }
 {
-    let mut i = at;
-    while i < area.len() {
-        area[i] = 0;
-        i += 1;
-    }
+    area[at..].fill(0);
 }

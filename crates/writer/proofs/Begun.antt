@@ -4,6 +4,7 @@ use mathlib.Core.List.{List, [], ◌++◌}
 use mathlib.Core.Path.{◌≡◌, ap, subst}
 use native.Mathlib.Omega.{arith}
 use lib.ListN.{length}
+use Rattle.forest.specs.declared.Row.{Row}
 use Rattle.model.specs.Forest.{cur, root}
 use Rattle.model.specs.Limits.{distance_limit, term_limit}
 use Rattle.model.specs.Tables.{connection_words}
@@ -28,7 +29,7 @@ use Rattle.writer.specs.Written.{Reached}
 use Rattle.writer.proofs.Legs.{Trip, chain-long, trip}
 use Rattle.trail.proofs.Lies.{Lies, legs-long, lies}
 
-module _ {nodes conns rows sizes : List ℕ} (k : Counts nodes conns rows sizes) where
+module _ {nodes conns : List ℕ} {rows : List Row} {sizes : List ℕ} (k : Counts nodes conns rows sizes) where
   pub accepted-nodes : AcceptedNodes (nodes_of nodes)
   accepted-nodes = table-nodes nodes (nodes_of nodes) k.whole.is
 

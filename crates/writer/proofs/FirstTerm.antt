@@ -5,6 +5,7 @@ use mathlib.Core.Path.{◌≡◌, refl, sym, ap, ap₂, ◌∙◌}
 use native.Mathlib.Nat.{zero-add}
 use native.Mathlib.Omega.{arith}
 use lib.ListN.{length, length-append}
+use Rattle.forest.specs.declared.Row.{Row}
 use Rattle.model.specs.Limits.{distance_limit, flat_words, term_limit, word_limit}
 use Rattle.model.specs.Tables.{connection_words}
 use Rattle.model.specs.Forest.{dist}
@@ -33,7 +34,7 @@ use Rattle.writer.proofs.Stands.{Stands, post_is, pre_is, stood}
 abbrev bare_spot : ℕ → Spot
 bare_spot end = record { place = 0; post = 0; end = end }
 
-module _ {nodes conns rows sizes : List ℕ} (k : Counts nodes conns rows sizes) {l r : ℕ} (b : Between nodes conns l r) where
+module _ {nodes conns : List ℕ} {rows : List Row} {sizes : List ℕ} (k : Counts nodes conns rows sizes) {l r : ℕ} (b : Between nodes conns l r) where
   pub reached : Reached nodes conns (length conns / connection_words) l r
   reached = record { few = omega arith; left_in = b.left_in; right-in = b.right-in; same = b.same }
 

@@ -6,6 +6,7 @@ use mathlib.Core.List.{List, [], ◌∷◌, ◌++◌}
 use mathlib.Core.Path.{◌≡◌, refl, sym, ap, ap₂, subst₂, ◌∙◌}
 use native.Mathlib.Omega.{arith}
 use lib.ListN.{length}
+use Rattle.forest.specs.declared.Row.{Row}
 use Rattle.model.specs.declared.Connection.{Connection}
 use Rattle.model.specs.Forest.{cur, root}
 use Rattle.model.specs.Node.{Node, term_of}
@@ -102,7 +103,7 @@ module _ (ns : List Node) (conns : List ℕ) (bound : ℕ) (nodes : AcceptedNode
   leg-way a true h = way_up ns nodes (connection_in conns a) (oldest a conns) (accepted-older ns conns (suc a) bound (omega arith) accepted)
   leg-way a false h = way_down ns nodes (connection_in conns a) (oldest a conns) (accepted-older ns conns (suc a) bound (omega arith) accepted)
 
-  module _ {rows : List ℕ} (filled : Filled ns conns rows bound) where
+  module _ {rows : List Row} (filled : Filled ns conns rows bound) where
     leg : (a : ℕ) (u : Bool) → a < bound →
         let h : Leg = record { age = a; up = u } in
         Trip ns conns bound (from conns h) (to conns h) (costly (cost_in rows (cur (connection_in conns a))) h) (leg_terms ns conns a u)

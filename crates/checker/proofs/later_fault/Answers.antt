@@ -1,52 +1,30 @@
 -- `checker::later_fault` meets its contract: 15, and then what the one mark tells.
 -- Assumes nothing.
-use native.Mathlib.Omega.{arith}
-use Prim.Native.Nat.{ℕ}
-use mathlib.Core.Path.{◌≡◌, sym, subst}
 use Rattle.model.specs.Term.{one}
-use Rattle.terms.specs.Place.{TermAt}
-use Rattle.marks.specs.declared.OneMark.{OneMark}
-use Rattle.marks.specs.Marks.{OneIs, OneAt}
-use Rattle.checker.specs.Check.{Marked, FaultIs}
+use Rattle.checker.specs.Check.{Marked}
 use Rattle.checker.proofs.Later.{fault-marks}
 use Rattle.checker.proofs.later_fault.Goals as goal
+use Rattle.checker.proofs.later_fault.Goals.{In-Some}
 
-pub returns-in_default : goal.returns-in_default
-returns-in_default c =
-    let marks : (m : OneMark) → c.one_mark-found.result ≡ m → let a = c.args in OneIs a.words.now a.at m = λ m e. let a = c.args in subst (OneIs a.words.now a.at) e c.one_mark-found.ensures in
-    (λ z. omega (arith, z), λ rs are e e' s t hs ht. fault-marks rs (one s) (one t) (marks _ c.in_default.is e' t ht))
-
-pub mark_fault-fault-requires : goal.mark_fault-fault-requires
-mark_fault-fault-requires c =
-    let marks : (m : OneMark) → c.one_mark-found.result ≡ m → let a = c.args in OneIs a.words.now a.at m = λ m e. let a = c.args in subst (OneIs a.words.now a.at) e c.one_mark-found.ensures in
-    let known : let a = c.args in
-    Marked a.words.now a.before a.at c.in-Behind.nodes c.in-Behind.end = let o = marks _ c.in-Behind.is c.requires.well.end c.requires.well.term c.requires.well.is in
+known : (c : In-Some) → let a = c.args in Marked a.words.now a.before a.at c.in-Some.mark.nodes c.in-Some.mark.end
+known c =
+    let w = c.requires.well in
+    let o = c.in-Some.ensures w.end w.term w.is in
     record {
       earlier = c.requires.ends_at.term;
       is_e = c.requires.ends_at.is;
-      later = c.requires.well.term;
-      is_l = subst (λ (e : ℕ). TermAt c.args.words.now c.args.at e c.requires.well.term) (sym o.ends) c.requires.well.is;
-      mark = subst (λ (e : ℕ). OneAt c.args.words.now c.args.at e c.in-Behind.nodes c.in-Behind.end c.requires.well.term) (sym o.ends) o;
-    } in record {
-      accepted_rules = c.requires.accepted_rules;
-      marked = known;
+      later = w.term;
+      is_l = rw o.ends w.is;
+      mark = rw (← o.ends) at o;
     }
 
-pub returns-then-fault-ne0 : goal.returns-then-fault-ne0
-returns-then-fault-ne0 c = (c.if-fault-ne0.true, c.mark_fault-fault.ensures)
+pub returns-in_default : goal.returns-in_default
+returns-in_default c = λ rs are e e' s t hs ht. fault-marks rs (one s) (one t) (c.in_default.ensures e' t ht)
+
+pub mark_fault-requires : goal.mark_fault-requires
+mark_fault-requires c = record { accepted_rules = c.requires.accepted_rules; marked = known c }
 
 pub returns : goal.returns
 returns c =
-    let marks : (m : OneMark) → c.one_mark-found.result ≡ m → let a = c.args in OneIs a.words.now a.at m = λ m e. let a = c.args in subst (OneIs a.words.now a.at) e c.one_mark-found.ensures in
-    let known : let a = c.args in
-    Marked a.words.now a.before a.at c.in-Behind.nodes c.in-Behind.end = let o = marks _ c.in-Behind.is c.requires.well.end c.requires.well.term c.requires.well.is in
-    record {
-      earlier = c.requires.ends_at.term;
-      is_e = c.requires.ends_at.is;
-      later = c.requires.well.term;
-      is_l = subst (λ (e : ℕ). TermAt c.args.words.now c.args.at e c.requires.well.term) (sym o.ends) c.requires.well.is;
-      mark = subst (λ (e : ℕ). OneAt c.args.words.now c.args.at e c.in-Behind.nodes c.in-Behind.end c.requires.well.term) (sym o.ends) o;
-    } in
-    let a = c.args in
-    let w = known in
-    (record { term = w.later; is = w.is_l }, subst (FaultIs a.rules.now a.words.now a.before a.at) c.if-fault-ne0.false c.mark_fault-fault.ensures)
+    let w = known (goal.at.returns c).In-Some in
+    (record { term = w.later; is = w.is_l }, c.in_ok-mark_fault.ensures)

@@ -1,12 +1,9 @@
 use native.Mathlib.Omega.{arith}
 use Prim.Native.Nat.{ℕ, zero, suc, ◌<◌}
 use mathlib.Core.List.{List}
-use mathlib.Core.Path.{◌≡◌, subst}
 use Rattle.terms.specs.Place.{Well}
 use Rattle.terms.proofs.Place.{row-well}
 use Rattle.marks.specs.Marks.{HasRow}
-use Rattle.checker.specs.declared.Following.{Following}
-use Rattle.checker.specs.Check.{FollowsIs}
 use Rattle.checker.proofs.Later.{later_first, later-next, later-found, later-done, later-before, later-at}
 use Rattle.checker.proofs.later_terms.Goals as goal
 
@@ -33,23 +30,16 @@ later_fault-judged-requires c =
 
 pub loop-k-preserved : goal.loop-k-preserved
 loop-k-preserved c =
-    let judged : (r : Following) → c.later_fault-judged.result ≡ r → let a = c.args in
-    FollowsIs a.rules.now a.words.now c.loop-k.before c.loop-k.at r = λ r e. let a = c.args in
-    subst (FollowsIs a.rules.now a.words.now c.loop-k.before c.loop-k.at) e c.later_fault-judged.ensures in
     let l = c.loop-k in
     let a = c.args in
-    let f = judged _ c.in-Ends.is in
+    let f = c.in-Ok.ensures in
     later-next a.rules.now a.words.now a.n l.before l.at l.k l.invariant (omega arith) f.1 _ f.0
 
-pub returns-in-Fault : goal.returns-in-Fault
-returns-in-Fault c =
-    let judged : (r : Following) → c.later_fault-judged.result ≡ r → let a = c.args in
-    FollowsIs a.rules.now a.words.now c.loop-k.before c.loop-k.at r = λ r e. let a = c.args in
-    subst (FollowsIs a.rules.now a.words.now c.loop-k.before c.loop-k.at) e c.later_fault-judged.ensures in
+pub returns-in-Err : goal.returns-in-Err
+returns-in-Err c =
     let l = c.loop-k in
     let a = c.args in
-    let f = judged _ c.in-Fault.is in
-    later-found a.rules.now a.words.now a.n l.before l.at l.k l.invariant (omega arith) _ f.0 f.1
+    later-found a.rules.now a.words.now a.n l.before l.at l.k l.invariant (omega arith) _ c.in-Err.ensures
 
 pub returns : goal.returns
 returns c =

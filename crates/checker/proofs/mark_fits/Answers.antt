@@ -10,38 +10,25 @@ use Rattle.terms.specs.Place.{TermAt}
 use Rattle.terms.proofs.Place.{well-room}
 use Rattle.checker.proofs.Split.{term-tree, way-forward, way-backward, no_way}
 use Rattle.checker.proofs.mark_fits.Goals as goal
+use Rattle.checker.proofs.mark_fits.Goals.{After-node_at-n}
+
+word : (c : After-node_at-n) (e : ℕ) (u : Term) (d : Direction) (n : ℕ) → TermAt c.args.words.now c.args.b e u → u.mark ≡ marked d n
+    → direction_word d ≡ c.node_at-n.result.mark
+word c e u d n h m =
+    ap mark_word (sym m) ∙ (sym (term-tree c.args.words.now c.args.b e u h).mark ∙ ap (λ (x : TreeNode). x.mark) (sym c.node_at-n.ensures))
 
 pub node_at-n-requires : goal.node_at-n-requires
 node_at-n-requires c = well-room c.args.words.now c.args.b c.requires.well_2
 
-pub entry_fits-requires-in-2 : goal.entry_fits-requires-in-2
-entry_fits-requires-in-2 c = record {
-  has_rule = c.requires.has_rule;
-  well = c.requires.well_2;
-  well_2 = c.requires.well;
-}
-
 pub returns-in-1 : goal.returns-in-1
-returns-in-1 c =
-    let word : (e : ℕ) (u : Term) (d : Direction) (n : ℕ) → let a = c.args in TermAt a.words.now a.b e u
-    → u.mark ≡ marked d n → direction_word d ≡ c.node_at-n.result.mark = λ e u d n h m. let a = c.args in
-    ap mark_word (sym m) ∙ (sym (term-tree a.words.now a.b e u h).mark ∙ ap (λ (x : TreeNode). x.mark) (sym c.node_at-n.ensures)) in
-    λ x said e e' t u ht hu d n m.
-    rw (way-forward d (word e' u d n hu m ∙ c.in-1.is)) (c.entry_fits.ensures x said e e' t u ht hu)
+returns-in-1 c = λ x said e e' t u ht hu d n m.
+    rw (way-forward d (word (goal.at.returns-in-1 c).After-node_at-n e' u d n hu m ∙ c.in-1.is)) (c.entry_fits.ensures x said e e' t u ht hu)
 
 pub returns-in-2 : goal.returns-in-2
-returns-in-2 c =
-    let word : (e : ℕ) (u : Term) (d : Direction) (n : ℕ) → let a = c.args in TermAt a.words.now a.b e u
-    → u.mark ≡ marked d n → direction_word d ≡ c.node_at-n.result.mark = λ e u d n h m. let a = c.args in
-    ap mark_word (sym m) ∙ (sym (term-tree a.words.now a.b e u h).mark ∙ ap (λ (x : TreeNode). x.mark) (sym c.node_at-n.ensures)) in
-    λ x said e e' t u ht hu d n m.
-    rw (way-backward d (word e' u d n hu m ∙ c.in-2.is)) (c.entry_fits-in-2.ensures x said e' e u t hu ht)
+returns-in-2 c = λ x said e e' t u ht hu d n m.
+    rw (way-backward d (word (goal.at.returns-in-2 c).After-node_at-n e' u d n hu m ∙ c.in-2.is)) (c.entry_fits-in-2.ensures x said e' e u t hu ht)
 
 pub returns-in_default : goal.returns-in_default
-returns-in_default c =
-    let word : (e : ℕ) (u : Term) (d : Direction) (n : ℕ) → let a = c.args in TermAt a.words.now a.b e u
-    → u.mark ≡ marked d n → direction_word d ≡ c.node_at-n.result.mark = λ e u d n h m. let a = c.args in
-    ap mark_word (sym m) ∙ (sym (term-tree a.words.now a.b e u h).mark ∙ ap (λ (x : TreeNode). x.mark) (sym c.node_at-n.ensures)) in
-    λ x said e e' t u ht hu d n m.
-    let w = word e' u d n hu m in
+returns-in_default c = λ x said e e' t u ht hu d n m.
+    let w = word (goal.at.returns-in_default c).After-node_at-n e' u d n hu m in
     absurd (no_way d (λ z. omega (arith, w, z)) (λ z. omega (arith, w, z)))

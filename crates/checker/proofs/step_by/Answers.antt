@@ -1,6 +1,5 @@
 -- `checker::step_by` meets its contract: the nodes before the mark, what stands there, and the nodes behind it.
 -- Assumes nothing.
-use borrow.Author.Tests.{not-true, not-false}
 use native.Mathlib.Omega.{arith}
 use Prim.Native.Nat.{ℕ, ◌+◌, ◌-◌, ◌*◌, ◌/◌, ◌≤◌}
 use mathlib.Core.Bool.{Bool, true, false, ◌&&◌}
@@ -16,73 +15,70 @@ use Rattle.model.specs.Tables.{rule_table}
 use Rattle.terms.specs.Place.{node_of, same_nodes, Well}
 use Rattle.rule_table.proofs.Entries.{Found}
 use Rattle.rule_table.proofs.Table.{table-found}
-use Rattle.matching.specs.declared.Fit.{Fit}
-use Rattle.matching.specs.declared.Fit.TheVariants.{Fits, Off}
-use Rattle.matching.specs.Match.{is_fit}
 use Rattle.checker.specs.Check.{fits_by, Marked, MarkFits}
 use Rattle.checker.proofs.Split.{AtMark, at_mark, later-there, Halves, earlier-there, halves, unequal, front-room, behind-count, behind-room, by-entry, unfit, step-known}
 use Rattle.checker.proofs.step_by.Goals as goal
-use Rattle.checker.proofs.step_by.Goals.{After-end_of-y, After-mark_fits-fit, After-same_nodes, Else-not-same_nodes, Start}
+use Rattle.checker.proofs.step_by.Goals.{After-end_of-y, After-mark_fits-fits, After-same_nodes, Else-not-same_nodes, Start}
 
-abbrev known : (c : Start) → Marked c.args.words.now c.args.before c.args.at c.args.nodes c.args.end
+abbrev known : (c : Start) → Marked c.args.words.now c.args.before c.args.at c.args.mark.nodes c.args.mark.end
 known c = c.requires.marked
 
-front : (c : After-same_nodes) → (b : Bool) → c.same_nodes.result ≡ b → let a = c.args in same_nodes a.words.now a.before a.at a.nodes ≡ b
+front : (c : After-same_nodes) → (b : Bool) → c.same_nodes.result ≡ b → let a = c.args in same_nodes a.words.now a.before a.at a.mark.nodes ≡ b
 front c = λ b e. sym c.same_nodes.ensures ∙ e
 
 room : (c : Start) → let a = c.args in
-    (a.before + flat_words * a.nodes ≤ length a.words.now) × (a.at + flat_words * a.nodes ≤ length a.words.now)
+    (a.before + flat_words * a.mark.nodes ≤ length a.words.now) × (a.at + flat_words * a.mark.nodes ≤ length a.words.now)
 room c = let w = known c in
-    front-room c.requires.accepted_rules.rules c.args.words.now c.args.before c.args.at c.args.end c.args.nodes w.earlier w.later w.is_e w.is_l w.mark
+    front-room c.requires.accepted_rules.rules c.args.words.now c.args.before c.args.at c.args.mark.end c.args.mark.nodes w.earlier w.later w.is_e w.is_l w.mark
 
 rule : (c : Start) → (rs : List Rule) → rule_table c.args.rules.now ≡ good rs
-    → Found c.args.rules.now rs (node_of c.args.words.now (c.args.at + flat_words * c.args.nodes)).rule.0 c.args.i
+    → Found c.args.rules.now rs (node_of c.args.words.now (c.args.at + flat_words * c.args.mark.nodes)).rule.0 c.args.i
 rule c = λ rs are. table-found _ rs _ _ are c.requires.nodes_value
 
-abbrev mark : (c : Start) → AtMark c.args.words.now c.args.at c.args.nodes (known c).later
-mark c = at_mark c.args.words.now c.args.at c.args.end c.args.nodes c.args.end (known c).later (known c).mark
+abbrev mark : (c : Start) → AtMark c.args.words.now c.args.at c.args.mark.nodes (known c).later
+mark c = at_mark c.args.words.now c.args.at c.args.mark.end c.args.mark.nodes c.args.mark.end (known c).later (known c).mark
 
-half : (c : Else-not-same_nodes) → (rs : List Rule) → Halves rs c.args.words.now c.args.before c.args.at c.args.nodes (known (goal.at.Else-not-same_nodes c).Start).earlier (known (goal.at.Else-not-same_nodes c).Start).later (mark (goal.at.Else-not-same_nodes c).Start)
+half : (c : Else-not-same_nodes) → (rs : List Rule) → Halves rs c.args.words.now c.args.before c.args.at c.args.mark.nodes (known (goal.at.Else-not-same_nodes c).Start).earlier (known (goal.at.Else-not-same_nodes c).Start).later (mark (goal.at.Else-not-same_nodes c).Start)
 half c =
     let above = goal.at.Else-not-same_nodes c in
     λ rs. let w = known above.Start in
-    halves rs c.args.words.now c.args.before c.args.at c.args.end c.args.nodes w.earlier w.later w.is_e w.is_l w.mark
-    ((front above.After-same_nodes) true (not-false _ c.if-not-same_nodes.false-raw))
+    halves rs c.args.words.now c.args.before c.args.at c.args.mark.end c.args.mark.nodes w.earlier w.later w.is_e w.is_l w.mark
+    ((front above.After-same_nodes) true c.if-not-same_nodes.false)
 
-well-a : (c : Else-not-same_nodes) → let a = c.args in Well a.words.now (a.before + flat_words * a.nodes)
+well-a : (c : Else-not-same_nodes) → let a = c.args in Well a.words.now (a.before + flat_words * a.mark.nodes)
 well-a c = let h = (half c) c.requires.accepted_rules.rules in record { end = h.words.stop; term = _; is = h.words.term }
 
-well-b : (c : Start) → let a = c.args in Well a.words.now (a.at + flat_words * a.nodes)
+well-b : (c : Start) → let a = c.args in Well a.words.now (a.at + flat_words * a.mark.nodes)
 well-b c = let x = mark c in record { end = x.words.stop; term = _; is = x.words.term }
 
 behind : (c : After-end_of-y) → (c.end_of-x.result + flat_words * size (mark (goal.at.After-end_of-y c).Start).rest ≤ length c.args.words.now)
-    × (c.end_of-y.result + flat_words * size (mark (goal.at.After-end_of-y c).Start).rest ≤ length c.args.words.now) × (c.end_of-y.result ≤ c.args.end)
+    × (c.end_of-y.result + flat_words * size (mark (goal.at.After-end_of-y c).Start).rest ≤ length c.args.words.now) × (c.end_of-y.result ≤ c.args.mark.end)
 behind c =
     let above = goal.at.After-end_of-y c in
     let w = known above.Start in
     let rs = c.requires.accepted_rules.rules in
-    behind-room rs c.args.words.now c.args.before c.args.at c.args.end c.args.nodes w.earlier w.later w.is_e w.is_l w.mark
+    behind-room rs c.args.words.now c.args.before c.args.at c.args.mark.end c.args.mark.nodes w.earlier w.later w.is_e w.is_l w.mark
     ((half above.Else-not-same_nodes) rs) c.end_of-x.result c.end_of-y.result c.end_of-x.ensures c.end_of-y.ensures
 
 found : (c : Start) → (rs : List Rule) (are : rule_table c.args.rules.now ≡ good rs) → listed rs (mark c).number ≡ some ((rule c) rs are).rule
 found c = λ rs are. subst (λ (n : ℕ). listed rs n ≡ some ((rule c) rs are).rule) (mark c).words.rule ((rule c) rs are).listed
 
-count : (c : After-end_of-y) → (c.args.end - c.end_of-y.result) / flat_words ≡ size (mark (goal.at.After-end_of-y c).Start).rest
+count : (c : After-end_of-y) → (c.args.mark.end - c.end_of-y.result) / flat_words ≡ size (mark (goal.at.After-end_of-y c).Start).rest
 count c =
     let above = goal.at.After-end_of-y c in
     let w = known above.Start in
     let rs = c.requires.accepted_rules.rules in
-    behind-count rs c.args.words.now c.args.before c.args.at c.args.end c.args.nodes w.earlier w.later w.is_e w.is_l w.mark
+    behind-count rs c.args.words.now c.args.before c.args.at c.args.mark.end c.args.mark.nodes w.earlier w.later w.is_e w.is_l w.mark
     ((half above.Else-not-same_nodes) rs) c.end_of-x.result c.end_of-y.result c.end_of-x.ensures c.end_of-y.ensures
 
-fit : (c : After-mark_fits-fit) → (f : Fit) → c.mark_fits-fit.result ≡ f → let a = c.args in
-    MarkFits a.rules.now a.i a.words.now (a.before + flat_words * a.nodes) (a.at + flat_words * a.nodes) f
+fit : (c : After-mark_fits-fits) → (f : Bool) → c.mark_fits-fits.result ≡ f → let a = c.args in
+    MarkFits a.rules.now a.i a.words.now (a.before + flat_words * a.mark.nodes) (a.at + flat_words * a.mark.nodes) f
 fit c = λ f e. let a = c.args in
-    subst (MarkFits a.rules.now a.i a.words.now (a.before + flat_words * a.nodes) (a.at + flat_words * a.nodes)) e c.mark_fits-fit.ensures
+    subst (MarkFits a.rules.now a.i a.words.now (a.before + flat_words * a.mark.nodes) (a.at + flat_words * a.mark.nodes)) e c.mark_fits-fits.ensures
 
-said : (c : After-mark_fits-fit) → (f : Fit) (e : c.mark_fits-fit.result ≡ f) (rs : List Rule) (are : rule_table c.args.rules.now ≡ good rs) → is_fit f ≡ fits_by ((rule (goal.at.After-mark_fits-fit c).Start) rs are).rule (mark (goal.at.After-mark_fits-fit c).Start).way (earlier-there ((half (goal.at.After-mark_fits-fit c).Else-not-same_nodes) rs)) (later-there (mark (goal.at.After-mark_fits-fit c).Start))
+said : (c : After-mark_fits-fits) → (f : Bool) (e : c.mark_fits-fits.result ≡ f) (rs : List Rule) (are : rule_table c.args.rules.now ≡ good rs) → f ≡ fits_by ((rule (goal.at.After-mark_fits-fits c).Start) rs are).rule (mark (goal.at.After-mark_fits-fits c).Start).way (earlier-there ((half (goal.at.After-mark_fits-fits c).Else-not-same_nodes) rs)) (later-there (mark (goal.at.After-mark_fits-fits c).Start))
 said c =
-    let above = goal.at.After-mark_fits-fit c in
+    let above = goal.at.After-mark_fits-fits c in
     λ f e rs are. let h = (half above.Else-not-same_nodes) rs in
     let x = mark above.Start in
     let y = (rule above.Start) rs are in
@@ -91,15 +87,15 @@ said c =
 pub same_nodes-requires : goal.same_nodes-requires
 same_nodes-requires c =
     let above = goal.at.same_nodes-requires c in
-    let w = known above.Start in record { count_in_bounds = (front-room c.requires.accepted_rules.rules c.args.words.now c.args.before c.args.at c.args.end c.args.nodes w.earlier w.later w.is_e w.is_l w.mark).0; count_in_bounds_2 = (front-room c.requires.accepted_rules.rules c.args.words.now c.args.before c.args.at c.args.end c.args.nodes w.earlier w.later w.is_e w.is_l w.mark).1 }
+    let w = known above.Start in record { count_in_bounds = (front-room c.requires.accepted_rules.rules c.args.words.now c.args.before c.args.at c.args.mark.end c.args.mark.nodes w.earlier w.later w.is_e w.is_l w.mark).0; count_in_bounds_2 = (front-room c.requires.accepted_rules.rules c.args.words.now c.args.before c.args.at c.args.mark.end c.args.mark.nodes w.earlier w.later w.is_e w.is_l w.mark).1 }
 
 pub returns-then-not-same_nodes : goal.returns-then-not-same_nodes
 returns-then-not-same_nodes c =
     let above = goal.at.returns-then-not-same_nodes c in
     let w = known above.Start in
-    step-known c.args.rules.now c.args.words.now c.args.before c.args.at c.args.nodes c.args.end w false (λ rs are.
-    sym (unequal rs c.args.words.now c.args.before c.args.at c.args.end c.args.nodes w.earlier w.later w.is_e w.is_l w.mark
-    ((front above.After-same_nodes) false (not-true _ c.if-not-same_nodes.true-raw))))
+    step-known c.args.rules.now c.args.words.now c.args.before c.args.at c.args.mark.nodes c.args.mark.end w false (λ rs are.
+    sym (unequal rs c.args.words.now c.args.before c.args.at c.args.mark.end c.args.mark.nodes w.earlier w.later w.is_e w.is_l w.mark
+    ((front above.After-same_nodes) false c.if-not-same_nodes.true)))
 
 pub overflow_mul-a : goal.overflow_mul-a
 overflow_mul-a c =
@@ -121,9 +117,9 @@ overflow_add-b c =
     let above = goal.at.overflow_add-b c in
     omega (arith, (room above.Start).1, c.well_formed.1.0)
 
-pub mark_fits-fit-requires : goal.mark_fits-fit-requires
-mark_fits-fit-requires c =
-    let above = goal.at.mark_fits-fit-requires c in
+pub mark_fits-fits-requires : goal.mark_fits-fits-requires
+mark_fits-fits-requires c =
+    let above = goal.at.mark_fits-fits-requires c in
     let r = (rule above.Start) c.requires.accepted_rules.rules c.requires.accepted_rules.are in record {
       has_rule = record { rule = r.rule; said = r.said };
       well = (well-a above.Else-not-same_nodes);
@@ -140,32 +136,32 @@ end_of-y-requires c =
     let above = goal.at.end_of-y-requires c in
     (well-b above.Start)
 
-pub overflow_sub-end : goal.overflow_sub-end
-overflow_sub-end c =
-    let above = goal.at.overflow_sub-end c in
+pub overflow_sub-mark : goal.overflow_sub-mark
+overflow_sub-mark c =
+    let above = goal.at.overflow_sub-mark c in
     (behind above.After-end_of-y).2
 
-pub returns-in-Fits : goal.returns-in-Fits
-returns-in-Fits c =
-    let above = goal.at.returns-in-Fits c in
+pub returns-then-fits : goal.returns-then-fits
+returns-then-fits c =
+    let above = goal.at.returns-then-fits c in
     let w = known above.Start in
-    step-known c.args.rules.now c.args.words.now c.args.before c.args.at c.args.nodes c.args.end w _ (λ rs are.
-    c.same_nodes-in-Fits.ensures
+    step-known c.args.rules.now c.args.words.now c.args.before c.args.at c.args.mark.nodes c.args.mark.end w _ (λ rs are.
+    c.same_nodes-then-fits.ensures
     ∙ (ap (same_nodes c.args.words.now c.end_of-x.result c.end_of-y.result) (count above.After-end_of-y)
-    ∙ sym (by-entry rs c.args.words.now c.args.before c.args.at c.args.end c.args.nodes w.earlier w.later w.is_e w.is_l w.mark
+    ∙ sym (by-entry rs c.args.words.now c.args.before c.args.at c.args.mark.end c.args.mark.nodes w.earlier w.later w.is_e w.is_l w.mark
     ((half above.Else-not-same_nodes) rs) c.end_of-x.result c.end_of-y.result c.end_of-x.ensures c.end_of-y.ensures ((rule above.Start) rs are).rule ((found above.Start) rs are)
     ∙ ap (λ (b : Bool). b && same_nodes c.args.words.now c.end_of-x.result c.end_of-y.result (size (mark above.Start).rest))
-    (sym ((said above.After-mark_fits-fit) Fits c.in-Fits.is rs are)))))
+    (sym ((said above.After-mark_fits-fits) true c.if-fits.true rs are)))))
 
-pub returns-in-Off : goal.returns-in-Off
-returns-in-Off c =
-    let above = goal.at.returns-in-Off c in
+pub returns-else-fits : goal.returns-else-fits
+returns-else-fits c =
+    let above = goal.at.returns-else-fits c in
     let w = known above.Start in
-    step-known c.args.rules.now c.args.words.now c.args.before c.args.at c.args.nodes c.args.end w false (λ rs are.
-    sym (unfit rs c.args.words.now c.args.before c.args.at c.args.end c.args.nodes w.earlier w.later w.is_e w.is_l w.mark
-    ((half above.Else-not-same_nodes) rs) ((rule above.Start) rs are).rule ((found above.Start) rs are) (sym ((said above.After-mark_fits-fit) Off c.in-Off.is rs are))))
+    step-known c.args.rules.now c.args.words.now c.args.before c.args.at c.args.mark.nodes c.args.mark.end w false (λ rs are.
+    sym (unfit rs c.args.words.now c.args.before c.args.at c.args.mark.end c.args.mark.nodes w.earlier w.later w.is_e w.is_l w.mark
+    ((half above.Else-not-same_nodes) rs) ((rule above.Start) rs are).rule ((found above.Start) rs are) (sym ((said above.After-mark_fits-fits) false c.if-fits.false rs are))))
 
-pub same_nodes-requires-in-Fits : goal.same_nodes-requires-in-Fits
-same_nodes-requires-in-Fits c =
-    let above = goal.at.same_nodes-requires-in-Fits c in
+pub same_nodes-requires-then-fits : goal.same_nodes-requires-then-fits
+same_nodes-requires-then-fits c =
+    let above = goal.at.same_nodes-requires-then-fits c in
     record { count_in_bounds = rw (count above.After-end_of-y) (behind above.After-end_of-y).0; count_in_bounds_2 = rw (count above.After-end_of-y) (behind above.After-end_of-y).1 }

@@ -11,7 +11,7 @@ use Rattle.checker.proofs.Later.{terms-many, terms-marked, terms-later}
 use Rattle.checker.proofs.terms_verdict.Goals as goal
 
 pub returns-then-n-gt-TERM_LIMIT : goal.returns-then-n-gt-TERM_LIMIT
-returns-then-n-gt-TERM_LIMIT c = λ rs are f h. let a = c.args in terms-many rs a.words.now a.n f h (omega arith)
+returns-then-n-gt-TERM_LIMIT c = λ rs are f h. let a = c.args in let p = terms-many rs a.words.now a.n f h (omega arith) in cc
 
 -- the first of some terms is a row of one
 first : (ws : List ℕ) (n : ℕ) → 0 < n → HasRow ws 0 n → HasRow ws 0 1
@@ -25,7 +25,8 @@ marked-requires c = first c.args.words.now c.args.n c.requires.n_nonzero c.requi
 
 pub returns-then-marked : goal.returns-then-marked
 returns-then-marked c = λ rs are f h.
-    terms-marked rs c.args.words.now c.args.n f h c.requires.n_nonzero (omega arith) (subst (MarkedIs c.args.words.now 0 1) c.if-marked.true c.marked.ensures)
+    let m = subst (MarkedIs c.args.words.now 0 1) c.if-marked.true c.marked.ensures in
+    let p = terms-marked rs c.args.words.now c.args.n f h c.requires.n_nonzero (omega arith) m in cc
 
 pub returns : goal.returns
 returns c = λ rs are f h.

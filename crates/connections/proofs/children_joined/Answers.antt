@@ -1,19 +1,32 @@
 use native.Mathlib.Omega.{arith}
 use Prim.Native.Nat.{ℕ, ◌+◌, ◌*◌}
 use mathlib.Core.Path.{◌≡◌, sym, ap, ap₂, ◌∙◌}
+use mathlib.Core.Bool.{Bool}
+use mathlib.Core.List.{List}
 use borrow.Author.Tests.{not-true, not-false}
 use Rattle.model.specs.Connect.{pairs_joined}
 use Rattle.model.specs.Tables.{words_from, node_words, children_at}
 use Rattle.entries.specs.Nodes.{count_in, child_in, children_in}
 use Rattle.entries.proofs.Children.{pairs-all, pairs_next, pairs-off, pairs-done}
 use Rattle.connections.specs.Classes.{same_class}
+use Rattle.connections.proofs.children_joined.Goals.{After-joined}
 use Rattle.connections.proofs.children_joined.Goals as goal
 
-pub count_of-n-requires : goal.count_of-n-requires
-count_of-n-requires c = omega (arith, c.requires.nodes_stand.0.room)
+-- as many of b's children as a has are all of them
+even : (f : ℕ → ℕ → Bool) (ws : List ℕ) (a b : ℕ) → count_in ws a ≡ count_in ws b →
+    pairs_joined f (children_in ws a) (words_from ws (b * node_words + children_at) (count_in ws a)) ≡ pairs_joined f (children_in ws a) (children_in ws b)
+even f ws a b h = ap (λ (k : ℕ). pairs_joined f (children_in ws a) (words_from ws (b * node_words + children_at) k)) h
+
+-- the pair that is asked for
+asked : (c : After-joined) →
+    same_class c.args.classes.now (child_in c.args.nodes.now c.args.a.0 c.loop-i.i) (child_in c.args.nodes.now c.args.b.0 c.loop-i.i) ≡ c.joined.result
+asked c = ap₂ (same_class c.args.classes.now) (sym c.child_of.ensures) (sym c.child_of-in-loop-i.ensures) ∙ sym c.joined.ensures
+
+pub count_of-i-end-requires : goal.count_of-i-end-requires
+count_of-i-end-requires c = omega (arith, c.requires.nodes_stand.0.room)
 
 pub loop-i-init : goal.loop-i-init
-loop-i-init c = (c.count_of-n.ensures, pairs-all _ _ _ _ _)
+loop-i-init c = pairs-all _ _ _ _ _
 
 pub child_of-requires : goal.child_of-requires
 child_of-requires c =
@@ -31,37 +44,14 @@ joined-requires c = (
 
 pub returns-then-not-joined : goal.returns-then-not-joined
 returns-then-not-joined c =
-    let even : let a = c.args in
-    let ws = a.nodes.now in
-    let f = pairs_joined (same_class a.classes.now) (children_in ws a.a.0) in
-    f (words_from ws (a.b.0 * node_words + children_at) (count_in ws a.a.0)) ≡ f (children_in ws a.b.0) = let a = c.args in
-    let ws = a.nodes.now in
-    let f = pairs_joined (same_class a.classes.now) (children_in ws a.a.0) in
-    ap (λ (k : ℕ). f (words_from ws (a.b.0 * node_words + children_at) k)) c.requires.a_value in
-    let asked : let a = c.args in
-    let i = c.loop-i.i in
-    same_class a.classes.now (child_in a.nodes.now a.a.0 i) (child_in a.nodes.now a.b.0 i) ≡ c.joined.result = let a = c.args in
-    ap₂ (same_class a.classes.now) (sym c.child_of.ensures) (sym c.child_of-in-loop-i.ensures)
-    ∙ sym c.joined.ensures in
-    pairs-off c.loop-i.invariant.1 (omega arith) (asked ∙ not-true _ c.if-not-joined.true-raw) ∙ even
+    pairs-off c.loop-i.invariant (omega arith) (asked (goal.at.returns-then-not-joined c).After-joined ∙ not-true _ c.if-not-joined.true-raw)
+    ∙ even (same_class c.args.classes.now) c.args.nodes.now _ _ c.requires.a_value
 
 pub loop-i-preserved : goal.loop-i-preserved
 loop-i-preserved c =
-    let asked : let a = c.args in
-    let i = c.loop-i.i in
-    same_class a.classes.now (child_in a.nodes.now a.a.0 i) (child_in a.nodes.now a.b.0 i) ≡ c.joined.result = let a = c.args in
-    ap₂ (same_class a.classes.now) (sym c.child_of.ensures) (sym c.child_of-in-loop-i.ensures)
-    ∙ sym c.joined.ensures in
-    let i = c.loop-i.invariant in
-    (i.0, pairs_next i.1 (omega arith) (asked ∙ not-false _ c.if-not-joined.false-raw))
+    pairs_next c.loop-i.invariant (omega arith) (asked (goal.at.loop-i-preserved c).After-joined ∙ not-false _ c.if-not-joined.false-raw)
 
 pub returns : goal.returns
 returns c =
-    let even : let a = c.args in
-    let ws = a.nodes.now in
-    let f = pairs_joined (same_class a.classes.now) (children_in ws a.a.0) in
-    f (words_from ws (a.b.0 * node_words + children_at) (count_in ws a.a.0)) ≡ f (children_in ws a.b.0) = let a = c.args in
-    let ws = a.nodes.now in
-    let f = pairs_joined (same_class a.classes.now) (children_in ws a.a.0) in
-    ap (λ (k : ℕ). f (words_from ws (a.b.0 * node_words + children_at) k)) c.requires.a_value in
-    pairs-done c.loop-i.invariant.1 (omega arith) ∙ even
+    pairs-done c.loop-i.invariant (omega (arith, c.count_of-i-end.ensures))
+    ∙ even (same_class c.args.classes.now) c.args.nodes.now _ _ c.requires.a_value

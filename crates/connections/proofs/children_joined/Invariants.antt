@@ -1,6 +1,5 @@
 -- `connections::children_joined` meets its contract: the pairs of children passed are joined, so that those left decide.
-use Prim.Native.Nat.{◌+◌, ◌*◌, ◌-◌}
-use mathlib.Core.Path.{◌≡◌}
+use Prim.Native.Nat.{◌+◌, ◌*◌}
 use Rattle.model.specs.Tables.{node_words, children_at}
 use Rattle.entries.specs.Nodes.{count_in}
 use Rattle.entries.proofs.Children.{Pairs}
@@ -9,8 +8,4 @@ use Rattle.connections.proofs.children_joined.Given as goal
 
 abbrev pub invariant-loop-i : goal.invariant-loop-i
 invariant-loop-i l =
-    (l.n ≡ count_in l.nodes l.a.0)
-    × Pairs (same_class l.classes) l.nodes (l.a.0 * node_words + children_at) (l.b.0 * node_words + children_at) (count_in l.nodes l.a.0) l.i
-
-abbrev pub decreases-loop-i : goal.decreases-loop-i
-decreases-loop-i l = l.n - l.i
+    Pairs (same_class l.classes) l.nodes (l.a.0 * node_words + children_at) (l.b.0 * node_words + children_at) (count_in l.nodes l.a.0) l.i

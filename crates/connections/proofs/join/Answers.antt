@@ -12,7 +12,7 @@ loop-i-init c = stored-none _
 
 pub loop-i-preserved : goal.loop-i-preserved
 loop-i-preserved c = let l = c.loop-i in
-    stored_next l.invariant c.loop-i-test.true (c.rename.ensures ∙ ap (renamed _ _) (l.invariant.rest l.i (omega arith)))
+    stored_next l.invariant (omega (arith, l.invariant.long)) (c.rename.ensures ∙ ap (renamed _ _) (l.invariant.rest l.i (omega arith)))
 
 pub shape_of-classes : goal.shape_of-classes
 shape_of-classes c = c.loop-i.invariant.long
@@ -22,7 +22,7 @@ returns c =
     let ws = c.args.classes.now in
     let a = c.args.a.0 in
     let b = c.args.b.0 in
-    stored-all c.loop-i.invariant c.loop-i-test.false _ (joined_length ws a b)
+    stored-all c.loop-i.invariant (omega (arith, c.loop-i.invariant.long)) _ (joined_length ws a b)
     (λ k h.
     joined_at ws a b k h
     ∙ ap₂ (λ (x y : ℕ). renamed x y (get_or ws k 0)) (sym c.class_of-from.ensures) (sym c.class_of-to.ensures))

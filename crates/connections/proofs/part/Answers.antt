@@ -11,10 +11,10 @@ pub overflow_cast-classes : goal.overflow_cast-classes
 overflow_cast-classes c = omega (arith, c.requires)
 
 pub loop-i-preserved : goal.loop-i-preserved
-loop-i-preserved c = stored_next c.loop-i.invariant c.loop-i-test.true refl
+loop-i-preserved c = stored_next c.loop-i.invariant (omega (arith, c.loop-i.invariant.long)) refl
 
 pub shape_of-classes : goal.shape_of-classes
 shape_of-classes c = c.loop-i.invariant.long
 
 pub returns : goal.returns
-returns c = stored-all c.loop-i.invariant c.loop-i-test.false _ (length-up_to _) (up_to-at _)
+returns c = stored-all c.loop-i.invariant (omega (arith, c.loop-i.invariant.long)) _ (length-up_to _) (up_to-at _)

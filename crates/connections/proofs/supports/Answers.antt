@@ -1,16 +1,22 @@
 -- `connections::supports` meets its contract: unequal operators or unequal counts decide, else the pairs of children do.
 use native.Mathlib.Omega.{arith}
-use Prim.Native.Nat.{◌+◌, ◌*◌}
+use Prim.Native.Nat.{ℕ, ◌+◌, ◌*◌}
 use mathlib.Core.Path.{◌≡◌, refl, sym, ap₂, ◌∙◌}
 use lib.ListN.{get_or}
-use mathlib.Core.Bool.{and-false}
+use mathlib.Core.Bool.{not, and-false}
 use borrow.Author.Tests.{not-true, not-false}
 use Rattle.model.specs.Term.{same_op}
 use Rattle.model.specs.Tables.{node_words, children_at}
 use Rattle.entries.specs.Nodes.{count_in}
 use Rattle.entries.proofs.Children.{pairs-uneven}
 use Rattle.connections.specs.Classes.{same_class}
+use Rattle.connections.proofs.supports.Goals.{After-ne}
 use Rattle.connections.proofs.supports.Goals as goal
+
+-- whether the two operators differ
+ops : (c : After-ne) →
+    not (same_op (get_or c.args.nodes.now (c.args.a.0 * node_words) 0) (get_or c.args.nodes.now (c.args.b.0 * node_words) 0)) ≡ c.ne.result
+ops c = ap₂ (λ (x y : ℕ). not (same_op x y)) (sym c.operator_of.ensures) (sym c.operator_of-2.ensures) ∙ sym c.ne.ensures
 
 pub operator_of-requires : goal.operator_of-requires
 operator_of-requires c = omega (arith, c.requires.0.room)
@@ -18,11 +24,8 @@ operator_of-requires c = omega (arith, c.requires.0.room)
 pub operator_of-requires-2 : goal.operator_of-requires-2
 operator_of-requires-2 c = omega (arith, c.requires.0.room)
 
-pub returns-then-not-same_op : goal.returns-then-not-same_op
-returns-then-not-same_op c =
-    let ops : let a = c.args in
-    same_op (get_or a.nodes.now (a.a.0 * node_words) 0) (get_or a.nodes.now (a.b.0 * node_words) 0) ≡ c.same_op.result = ap₂ same_op (sym c.operator_of.ensures) (sym c.operator_of-2.ensures) ∙ sym c.same_op.ensures in
-    rw (ops ∙ not-true _ c.if-not-same_op.true-raw) refl
+pub returns-then-ne : goal.returns-then-ne
+returns-then-ne c = rw (not-true _ (ops (goal.at.returns-then-ne c).After-ne ∙ c.if-ne.true)) refl
 
 pub count_of-requires : goal.count_of-requires
 count_of-requires c = omega (arith, c.requires.0.room)
@@ -45,7 +48,4 @@ children_joined-requires c = record {
 }
 
 pub returns : goal.returns
-returns c =
-    let ops : let a = c.args in
-    same_op (get_or a.nodes.now (a.a.0 * node_words) 0) (get_or a.nodes.now (a.b.0 * node_words) 0) ≡ c.same_op.result = ap₂ same_op (sym c.operator_of.ensures) (sym c.operator_of-2.ensures) ∙ sym c.same_op.ensures in
-    c.children_joined.ensures ∙ rw (ops ∙ not-false _ c.if-not-same_op.false-raw) refl
+returns c = c.children_joined.ensures ∙ rw (not-false _ (ops (goal.at.returns c).After-ne ∙ c.if-ne.false)) refl

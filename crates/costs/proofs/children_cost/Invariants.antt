@@ -1,6 +1,6 @@
 -- `costs::children_cost` meets its contract: what the pairs of children passed have cost, and what those left cost, make the whole sum,
 -- held at the cap.
-use Prim.Native.Nat.{◌+◌, ◌*◌, ◌-◌}
+use Prim.Native.Nat.{◌+◌, ◌*◌}
 use mathlib.Core.List.{List}
 use mathlib.Core.Path.{◌≡◌}
 use Rattle.model.specs.declared.Connection.{Connection}
@@ -16,6 +16,3 @@ invariant-loop-i l =
     (l.n ≡ count_in l.nodes l.a.0)
     × ((cs : List Connection) → Climbs cs (nodes_in l.nodes) l.rows →
     Sums (weigh l.rows cs) l.nodes (l.a.0 * node_words + children_at) (l.b.0 * node_words + children_at) (count_in l.nodes l.a.0) l.i l.sum)
-
-abbrev pub decreases-loop-i : goal.decreases-loop-i
-decreases-loop-i l = l.n - l.i

@@ -7,10 +7,10 @@ use Rattle.costs.specs.Costs.{Above, cost_cap}
 use Rattle.costs.proofs.Climbs.{Paid}
 use Rattle.costs.proofs.climb_cost.Given as goal
 
-abbrev pub invariant-loop-at : goal.invariant-loop-at
-invariant-loop-at l =
+abbrev pub invariant-loop-to : goal.invariant-loop-to
+invariant-loop-to l =
     (l.sum ≤ cost_cap)
     × ((cs : List Connection) (n : ℕ) → Climbs cs n l.rows → l.initial.at.0 < n → Above cs l.initial.at.0 l.to.0 → Paid l.rows cs n l.initial.at.0 l.to.0 l.at.0 l.sum)
 
-abbrev pub decreases-loop-at : goal.decreases-loop-at
-decreases-loop-at l = depth_in l.rows l.at.0
+abbrev pub decreases-loop-to : goal.decreases-loop-to
+decreases-loop-to l = depth_in l.rows l.at.0

@@ -4,9 +4,6 @@ use Rattle.costs.specs.Costs.{held}
 use Rattle.costs.proofs.Payable.{by-children, by-rule}
 use Rattle.costs.proofs.connection_cost.Goals as goal
 
-pub children_cost-requires : goal.children_cost-requires
-children_cost-requires c = c.requires.alike c.in-Congruence.is
-
 pub returns-in-Rule : goal.returns-in-Rule
 returns-in-Rule c = λ cs k. by-rule _ _ _ _ _ c.in-Rule.is
 

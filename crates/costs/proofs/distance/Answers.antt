@@ -9,32 +9,28 @@ use Rattle.forest.specs.Rows.{connections_of}
 use Rattle.costs.specs.Costs.{Charged, Filled, nodes_in}
 use Rattle.costs.proofs.Priced.{charged-priced, filled-priced, weigh-dist}
 use Rattle.costs.proofs.distance.Goals as goal
+use Rattle.costs.proofs.distance.Goals.{After-fill_costs}
 
-pub fill_costs-requires : goal.fill_costs-requires
-fill_costs-requires c = record {
-  supported = c.requires.supported;
-  charged = c.requires.charged;
-}
+charged : (c : After-fill_costs) → let a = c.args in
+    Charged (connections_of a.conns.now) (nodes_in a.nodes.now) c.fill_costs.new.rows
+charged c =
+    let r = c.requires.charged.climbs.rooted in
+    rw c.fill_costs.ensures
+    (charged-priced (nodes_of c.args.nodes.now) c.args.conns.now c.requires.charged _ r.within r.forest _ (omega arith))
 
 pub path_cost-requires : goal.path_cost-requires
 path_cost-requires c =
-    let charged : let a = c.args in
-    Charged (connections_of a.conns.now) (nodes_in a.nodes.now) c.fill_costs.new.rows = let r = c.requires.charged.climbs.rooted in
-    rw c.fill_costs.ensures
-    (charged-priced (nodes_of c.args.nodes.now) c.args.conns.now c.requires.charged _ r.within r.forest _ (omega arith)) in
-    record { conns = _; nodes = _; charged = charged; left_in = c.requires.between.left_in; right-in = c.requires.between.right-in; same = c.requires.between.same }
+    let above = goal.at.path_cost-requires c in
+    record { conns = _; nodes = _; charged = (charged above.After-fill_costs); left_in = c.requires.between.left_in; right-in = c.requires.between.right-in; same = c.requires.between.same }
 
 pub returns : goal.returns
 returns c =
-    let charged : let a = c.args in
-    Charged (connections_of a.conns.now) (nodes_in a.nodes.now) c.fill_costs.new.rows = let r = c.requires.charged.climbs.rooted in
-    rw c.fill_costs.ensures
-    (charged-priced (nodes_of c.args.nodes.now) c.args.conns.now c.requires.charged _ r.within r.forest _ (omega arith)) in
+    let above = goal.at.returns c in
     let filled : let a = c.args in
     Filled (nodes_of a.nodes.now) a.conns.now c.fill_costs.new.rows (length a.conns.now / connection_words) = let r = c.requires.charged.climbs.rooted in
     rw c.fill_costs.ensures
     (filled-priced (nodes_of c.args.nodes.now) c.args.conns.now c.requires.charged _ r.within r.forest _ (omega arith)) in record {
-      value = c.wide.ensures ∙ c.path_cost.ensures (connections_of c.args.conns.now) _ (charged).climbs c.requires.between.left_in c.requires.between.right-in
+      value = c.from.ensures ∙ c.path_cost.ensures (connections_of c.args.conns.now) _ (charged above.After-fill_costs).climbs c.requires.between.left_in c.requires.between.right-in
           ∙ weigh-dist (nodes_of c.args.nodes.now) c.args.conns.now _ _ _ _ (filled);
       rows_after = c.fill_costs.ensures;
     }

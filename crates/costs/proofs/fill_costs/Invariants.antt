@@ -1,12 +1,8 @@
 -- `costs::fill_costs` meets its contract: the costs of the connections passed are written, each from those before it.
-use Prim.Native.Nat.{◌-◌, ◌≤◌}
 use mathlib.Core.Path.{◌≡◌}
 use Rattle.entries.specs.Nodes.{nodes_of}
 use Rattle.costs.specs.Costs.{priced}
 use Rattle.costs.proofs.fill_costs.Given as goal
 
 abbrev pub invariant-loop-age : goal.invariant-loop-age
-invariant-loop-age l = (l.age ≤ l.count) × (l.rows ≡ priced (nodes_of l.nodes) l.conns l.age l.initial.rows)
-
-abbrev pub decreases-loop-age : goal.decreases-loop-age
-decreases-loop-age l = l.count - l.age
+invariant-loop-age l = l.rows ≡ priced (nodes_of l.nodes) l.conns l.age l.initial.rows

@@ -31,7 +31,7 @@ bounds-slot-4 c = simp length-set (omega arith)
 pub returns : goal.returns
 returns c = record {
   value = (connection-put _ _ _ (omega arith) c.word_at-rule.ensures _ _ _ _ c.requires (sym (not-false _ c.if-not-why_fits.false-raw) ∙ c.why_fits.ensures)
-      c.word_at.ensures c.word_at-2.ensures c.wide_byte.ensures.0 c.wide_byte-2.ensures.0).0;
+      c.word_at.ensures c.word_at-2.ensures c.from.ensures c.from-2.ensures).0;
   slot_after = (connection-put _ _ _ (omega arith) c.word_at-rule.ensures _ _ _ _ c.requires (sym (not-false _ c.if-not-why_fits.false-raw) ∙ c.why_fits.ensures)
-      c.word_at.ensures c.word_at-2.ensures c.wide_byte.ensures.0 c.wide_byte-2.ensures.0).1;
+      c.word_at.ensures c.word_at-2.ensures c.from.ensures c.from-2.ensures).1;
 }

@@ -18,6 +18,6 @@ returns c =
     let args = c.args in
     six-put args.bytes.now _ args.i _ _ _ _ _ (omega arith)
     c.word_at.ensures
-    c.wide_byte.ensures.0
-    c.wide_byte-2.ensures.0
+    c.from.ensures
+    c.from-2.ensures
     c.word_at-2.ensures

@@ -7,7 +7,7 @@ use mathlib.Core.Bool.{true}
 use mathlib.Core.List.{List}
 use mathlib.Core.Path.{◌≡◌, sym, ap, subst, ◌∙◌}
 use lib.ListN.{length}
-use Rattle.model.specs.declared.Measured.TheVariants.{Distance}
+use Rattle.std.proofs.Common.{Ok}
 use Rattle.model.specs.Limits.{distance_limit}
 use Rattle.model.specs.Forest.{joined, dist}
 use Rattle.model.specs.Query.{Tables}
@@ -21,7 +21,7 @@ use Rattle.costs.specs.Costs.{Charged, Between}
 use Rattle.costs.proofs.Payable.{charged-full}
 use Rattle.explanation.proofs.Measures.{no-left, no-right, apart, long, near, ways}
 use Rattle.explanation.proofs.measure.Goals as goal
-use Rattle.explanation.proofs.measure.Goals.{After-fill_rows, After-joined, Else-n-wide-2, Else-not-joined}
+use Rattle.explanation.proofs.measure.Goals.{After-fill_rows, After-joined, Else-n-from-2, Else-not-joined}
 
 -- how many nodes there are
 many : (nws : List ℕ) (t : Tables) → t.nodes ≡ nodes_of nws → length t.nodes ≡ length nws / node_words
@@ -32,8 +32,8 @@ record Inside (n l r : ℕ) : Type 0 where
   left : l < n
   right : r < n
 
-inside : (c : Else-n-wide-2) → let a = c.args in Inside (length a.nodes.now / node_words) a.left.0 a.right.0
-inside c = record { left = omega (arith, c.wide.ensures); right = omega (arith, c.wide-2.ensures) }
+inside : (c : Else-n-from-2) → let a = c.args in Inside (length a.nodes.now / node_words) a.left.0 a.right.0
+inside c = record { left = omega (arith, c.from.ensures); right = omega (arith, c.from-2.ensures) }
 
 charged : (c : After-fill_rows) → let a = c.args in
     Charged (connections_of a.connections.now) (length a.nodes.now / node_words) c.fill_rows.new.rows
@@ -43,7 +43,7 @@ told : (c : After-joined) → let a = c.args in
     c.joined.result ≡ joined (connections_of a.connections.now) a.left.0 a.right.0
 told c =
     let above = goal.at.After-joined c in
-    let b = inside above.Else-n-wide-2 in
+    let b = inside above.Else-n-from-2 in
     c.joined.ensures _ _ (charged above.After-fill_rows).climbs b.left b.right
 
 same : (c : Else-not-joined) → let a = c.args in
@@ -56,22 +56,22 @@ between : (c : Else-not-joined) → let a = c.args in
     Between a.nodes.now a.connections.now a.left.0 a.right.0
 between c =
     let above = goal.at.Else-not-joined c in
-    let b = inside above.Else-n-wide-2 in
+    let b = inside above.Else-n-from-2 in
     record { left_in = b.left; right-in = b.right; same = joined-root _ _ _ (same c) }
 
-pub returns-then-n-wide : goal.returns-then-n-wide
-returns-then-n-wide c =
+pub returns-then-n-from : goal.returns-then-n-from
+returns-then-n-from c =
     let a = c.args in record {
-      measures = λ t ns cs. no-left t a.left.0 a.right.0 (omega (arith, many a.nodes.now t ns, c.wide.ensures));
+      measures = λ t ns cs. no-left t a.left.0 a.right.0 (omega (arith, many a.nodes.now t ns, c.from.ensures));
       routed = tt;
     }
 
-pub returns-then-n-wide-2 : goal.returns-then-n-wide-2
-returns-then-n-wide-2 c =
+pub returns-then-n-from-2 : goal.returns-then-n-from-2
+returns-then-n-from-2 c =
     let a = c.args in record {
       measures = λ t ns cs.
           let m = many a.nodes.now t ns in
-          no-right t a.left.0 a.right.0 (omega (arith, m, c.wide.ensures)) (omega (arith, m, c.wide-2.ensures));
+          no-right t a.left.0 a.right.0 (omega (arith, m, c.from.ensures)) (omega (arith, m, c.from-2.ensures));
       routed = tt;
     }
 
@@ -81,7 +81,7 @@ fill_rows-requires c = (rooted c.requires.supported, c.requires.rows_len)
 pub joined-requires : goal.joined-requires
 joined-requires c =
     let above = goal.at.joined-requires c in
-    let b = inside above.Else-n-wide-2 in
+    let b = inside above.Else-n-from-2 in
     record { conns = _; nodes = _; climbs = (charged above.After-fill_rows).climbs; left_in = b.left; right-in = b.right }
 
 pub returns-then-not-joined : goal.returns-then-not-joined
@@ -90,7 +90,7 @@ returns-then-not-joined c =
     let a = c.args in record {
       measures = λ t ns cs.
           let m = many a.nodes.now t ns in
-          apart t a.left.0 a.right.0 (omega (arith, m, (inside above.Else-n-wide-2).left)) (omega (arith, m, (inside above.Else-n-wide-2).right))
+          apart t a.left.0 a.right.0 (omega (arith, m, (inside above.Else-n-from-2).left)) (omega (arith, m, (inside above.Else-n-from-2).right))
           (rw cs (sym (told above.After-joined) ∙ not-true _ c.if-not-joined.true-raw));
       routed = tt;
     }
@@ -106,7 +106,7 @@ returns-then-d-gt-DISTANCE_LIMIT c =
     let a = c.args in record {
       measures = λ t ns cs.
           let m = many a.nodes.now t ns in
-          long t a.left.0 a.right.0 (omega (arith, m, (inside above.Else-n-wide-2).left)) (omega (arith, m, (inside above.Else-n-wide-2).right)) (rw cs (same above.Else-not-joined))
+          long t a.left.0 a.right.0 (omega (arith, m, (inside above.Else-n-from-2).left)) (omega (arith, m, (inside above.Else-n-from-2).right)) (rw cs (same above.Else-not-joined))
           (rw (ns, cs) (omega (arith, c.distance-d.ensures.value)));
       routed = tt;
     }
@@ -119,8 +119,8 @@ returns c =
           let m = many a.nodes.now t ns in
           let d : c.distance-d.result ≡ dist t.nodes t.conns a.left.0 a.right.0 =
           rw (ns, cs) (omega (arith, c.distance-d.ensures.value)) in
-          ap Distance d
-          ∙ near t a.left.0 a.right.0 (omega (arith, m, (inside above.Else-n-wide-2).left)) (omega (arith, m, (inside above.Else-n-wide-2).right)) (rw cs (same above.Else-not-joined))
+          ap Ok d
+          ∙ near t a.left.0 a.right.0 (omega (arith, m, (inside above.Else-n-from-2).left)) (omega (arith, m, (inside above.Else-n-from-2).right)) (rw cs (same above.Else-not-joined))
           (subst (λ (x : ℕ). x ≤ distance_limit) d c.if-d-gt-DISTANCE_LIMIT.false);
       routed = ways c.requires.supported (between above.Else-not-joined) (omega (arith, c.distance-d.ensures.value)) (charged above.After-fill_rows) c.distance-d.ensures.rows_after;
     }

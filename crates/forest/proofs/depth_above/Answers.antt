@@ -2,6 +2,7 @@ use native.Mathlib.Omega.{arith}
 use Prim.Native.Nat.{ℕ, suc, ◌+◌, ◌<◌}
 use mathlib.Core.List.{List}
 use mathlib.Core.Path.{◌≡◌, sym, ◌∙◌}
+use Rattle.forest.specs.declared.Row.{Row}
 use Rattle.model.specs.Limits.{node_limit}
 use Rattle.model.specs.declared.Connection.{Connection}
 use Rattle.paths.specs.Hangs.{depth, next_of}
@@ -9,9 +10,10 @@ use Rattle.forest.specs.Rows.{age_in, depth_in, next_in}
 use Rattle.forest.specs.Filling.{Sounded}
 use Rattle.forest.proofs.Climbing.{Sought, depth-few, next-depth, next-in, top-depth}
 use Rattle.forest.proofs.depth_above.Goals as goal
+use Rattle.forest.proofs.depth_above.Goals.{At-loop-steps, Start}
 
 -- where the node has a parent, the climb goes on
-module _ {cs : List Connection} {k : ℕ} {old rows : List ℕ} {m at steps : ℕ} (s : Sounded cs k old rows) (w : Sought cs k m at steps) where
+module _ {cs : List Connection} {k : ℕ} {old rows : List Row} {m at steps : ℕ} (s : Sounded cs k old rows) (w : Sought cs k m at steps) where
   onward : (up : ℕ) → (age_in rows at ≡ 0 → ⊥) → up ≡ next_in rows at → Sought cs k m up (steps + 1)
   onward up z u =
       let v : up ≡ next_of cs at = u ∙ s.tied.next at w.inside in
@@ -26,50 +28,37 @@ module _ {cs : List Connection} {k : ℕ} {old rows : List ℕ} {m at steps : �
   at-known : (depth_in rows at ≡ 0 → ⊥) → steps + depth_in rows at ≡ suc (depth cs m)
   at-known z = omega (arith, s.right at w.inside (omega arith), w.total)
 
-pub loop-steps-init : goal.loop-steps-init
-loop-steps-init c = λ cs k old s h. record { inside = h; total = omega arith }
+sought : (c : At-loop-steps) → Sought c.requires.conns c.requires.nodes c.args.n.0 c.loop-steps.at.0 c.loop-steps.steps
+sought c =
+    c.loop-steps.invariant c.requires.conns c.requires.nodes _ c.requires.sounded c.requires.inside
+
+small : (c : At-loop-steps) → c.loop-steps.at.0 < node_limit
+small c =
+    omega (arith, (sought c).inside, c.requires.sounded.rooted.few)
+
+short : (c : Start) → depth c.requires.conns c.args.n.0 < node_limit
+short c =
+    depth-few c.requires.sounded.rooted _ c.requires.inside
 
 pub depth_of-requires : goal.depth_of-requires
 depth_of-requires c =
-    let sought :
-    Sought c.requires.conns c.requires.nodes c.args.n.0 c.loop-steps.at.0 c.loop-steps.steps = c.loop-steps.invariant c.requires.conns c.requires.nodes _ c.requires.sounded c.requires.inside in
-    let small : c.loop-steps.at.0 < node_limit = omega (arith, (sought).inside, c.requires.sounded.rooted.few) in
-    small
+    let above = goal.at.depth_of-requires c in
+    (small above.At-loop-steps)
 
 pub overflow_add-steps : goal.overflow_add-steps
 overflow_add-steps c =
-    let sought :
-    Sought c.requires.conns c.requires.nodes c.args.n.0 c.loop-steps.at.0 c.loop-steps.steps = c.loop-steps.invariant c.requires.conns c.requires.nodes _ c.requires.sounded c.requires.inside in
-    let short : depth c.requires.conns c.args.n.0 < node_limit = depth-few c.requires.sounded.rooted _ c.requires.inside in
-    omega (arith, short, (sought).total)
+    let above = goal.at.overflow_add-steps c in
+    omega (arith, (short above.Start), (sought above.At-loop-steps).total)
 
 pub age_of-requires : goal.age_of-requires
 age_of-requires c =
-    let sought :
-    Sought c.requires.conns c.requires.nodes c.args.n.0 c.loop-steps.at.0 c.loop-steps.steps = c.loop-steps.invariant c.requires.conns c.requires.nodes _ c.requires.sounded c.requires.inside in
-    let small : c.loop-steps.at.0 < node_limit = omega (arith, (sought).inside, c.requires.sounded.rooted.few) in
-    small
-
-pub next_of-at-requires : goal.next_of-at-requires
-next_of-at-requires c =
-    let sought :
-    Sought c.requires.conns c.requires.nodes c.args.n.0 c.loop-steps.at.0 c.loop-steps.steps = c.loop-steps.invariant c.requires.conns c.requires.nodes _ c.requires.sounded c.requires.inside in
-    let small : c.loop-steps.at.0 < node_limit = omega (arith, (sought).inside, c.requires.sounded.rooted.few) in
-    small
+    let above = goal.at.age_of-requires c in
+    (small above.At-loop-steps)
 
 pub loop-steps-smaller : goal.loop-steps-smaller
 loop-steps-smaller c =
-    let sought :
-    Sought c.requires.conns c.requires.nodes c.args.n.0 c.loop-steps.at.0 c.loop-steps.steps = c.loop-steps.invariant c.requires.conns c.requires.nodes _ c.requires.sounded c.requires.inside in
-    let short : depth c.requires.conns c.args.n.0 < node_limit = depth-few c.requires.sounded.rooted _ c.requires.inside in
-    omega (arith, short, (sought).total)
-
-pub depth_of-requires-2 : goal.depth_of-requires-2
-depth_of-requires-2 c =
-    let sought :
-    Sought c.requires.conns c.requires.nodes c.args.n.0 c.loop-steps.at.0 c.loop-steps.steps = c.loop-steps.invariant c.requires.conns c.requires.nodes _ c.requires.sounded c.requires.inside in
-    let small : c.loop-steps.at.0 < node_limit = omega (arith, (sought).inside, c.requires.sounded.rooted.few) in
-    small
+    let above = goal.at.loop-steps-smaller c in
+    omega (arith, (short above.Start), (sought above.At-loop-steps).total)
 
 pub returns-then-age_of-eq0 : goal.returns-then-age_of-eq0
 returns-then-age_of-eq0 c = λ cs k old s h.
@@ -81,10 +70,8 @@ loop-steps-preserved c = λ cs k old s h.
 
 pub overflow_add-result : goal.overflow_add-result
 overflow_add-result c =
-    let sought :
-    Sought c.requires.conns c.requires.nodes c.args.n.0 c.loop-steps.at.0 c.loop-steps.steps = c.loop-steps.invariant c.requires.conns c.requires.nodes _ c.requires.sounded c.requires.inside in
-    let short : depth c.requires.conns c.args.n.0 < node_limit = depth-few c.requires.sounded.rooted _ c.requires.inside in
-    omega (arith, c.depth_of-2.ensures, short, at-known c.requires.sounded (sought) (λ q. c.loop-steps-test.false (c.depth_of.ensures ∙ q)))
+    let above = goal.at.overflow_add-result c in
+    omega (arith, c.depth_of-2.ensures, (short above.Start), at-known c.requires.sounded (sought above.At-loop-steps) (λ q. c.loop-steps-test.false (c.depth_of.ensures ∙ q)))
 
 pub returns : goal.returns
 returns c = λ cs k old s h.

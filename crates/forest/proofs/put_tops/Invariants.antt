@@ -1,11 +1,7 @@
 -- `forest::put_tops` meets its contract: the rows passed are those of nodes without a parent, and what stands behind them is as it was.
-use Prim.Native.Nat.{◌-◌, ◌≤◌}
 use mathlib.Core.List.{[]}
 use Rattle.forest.specs.Filling.{Tied, DepthsUnknown}
 use Rattle.forest.proofs.put_tops.Given as goal
 
 abbrev pub invariant-loop-i : goal.invariant-loop-i
-invariant-loop-i l = (l.i ≤ l.n) × Tied [] l.i l.initial.rows l.rows × DepthsUnknown l.i l.rows
-
-abbrev pub decreases-loop-i : goal.decreases-loop-i
-decreases-loop-i l = l.n - l.i
+invariant-loop-i l = Tied [] l.i l.initial.rows l.rows × DepthsUnknown l.i l.rows

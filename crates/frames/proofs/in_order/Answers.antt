@@ -6,8 +6,8 @@ use Rattle.frames.proofs.in_order.Goals as goal
 pub returns-then-last-kind : goal.returns-then-last-kind
 returns-then-last-kind c = order-up _ _ (omega arith)
 
-pub returns-then-last-eq6 : goal.returns-then-last-eq6
-returns-then-last-eq6 c = order-end _ _ (omega arith) c.if-last-eq6.true
+pub returns-then-last-eq-END_KIND : goal.returns-then-last-eq-END_KIND
+returns-then-last-eq-END_KIND c = order-end _ _ (omega arith) c.if-last-eq-END_KIND.true
 
 pub returns : goal.returns
-returns c = order-down _ _ (omega arith) c.if-last-eq6.false
+returns c = order-down _ _ (omega arith) c.if-last-eq-END_KIND.false

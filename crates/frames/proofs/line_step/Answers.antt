@@ -14,7 +14,7 @@ use Rattle.frames.proofs.line_step.Goals as goal
 pub returns-then-not-is_line : goal.returns-then-not-is_line
 returns-then-not-is_line c s h =
     let a = c.args in
-    as-turn _ _ _ _ _ _ _ (of-no-line s a.line a.digits.now (no_line a.digits.now c.is_line.ensures c.if-not-is_line.true-raw)) refl
+    as-turn _ _ (of-no-line s a.line a.digits.now (no_line a.digits.now c.is_line.ensures c.if-not-is_line.true-raw)) refl
 
 pub put_bytes-requires : goal.put_bytes-requires
 put_bytes-requires c =
@@ -32,7 +32,7 @@ returns c s h =
     let is_framed : Framed c.args.digits.now = framed _ (a-line _ c.is_line.ensures c.if-not-is_line.false-raw) in
     let roomy : let a = c.args in length a.digits.now ≤ 2 * length a.bytes.now = omega (arith, (is_framed).short, c.requires.frame_room_in_bounds) in
     let a = c.args in
-    as-turn _ _ _ _ _ _ _ (of-line s a.line a.digits.now (is_framed) a.bytes.now (roomy)
+    as-turn _ _ (of-line s a.line a.digits.now (is_framed) a.bytes.now (roomy)
     ∙ ap (λ (l : List ℕ). turn_if (in_order s.kind (get_or l 0 0)) s a.line (frame_of (get_or l 0 0) (mid_of 1 (length a.digits.now / 2 - 1) l)))
     (sym c.put_bytes.ensures))
     (c.frame_step.ensures s h)

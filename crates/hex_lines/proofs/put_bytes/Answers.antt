@@ -1,52 +1,35 @@
 use native.Mathlib.Omega.{arith}
-use Rattle.hex_lines.proofs.Spelled.{spelling-start, Pair, spelling-length, spelling-pair, spelling-more, spelling-done}
+use Prim.Native.Nat.{ℕ, ◌+◌, ◌*◌}
+use mathlib.Core.Path.{sym, subst, ◌∙◌}
+use lib.ListN.{set}
+use Rattle.hex_lines.proofs.Digits.{said-digit, said-there}
+use Rattle.hex_lines.proofs.Spelled.{Spelling, spelling-start, spelling-pair, spelling-more, spelling-last}
 use Rattle.hex_lines.proofs.put_bytes.Goals as goal
 
 pub loop-i-init : goal.loop-i-init
 loop-i-init c = spelling-start _ _ c.requires.0
 
+pub unwrap-high-requires : goal.unwrap-high-requires
+unwrap-high-requires c = said-there _ c.value.ensures (spelling-pair c.requires.1 c.loop-i.invariant (omega arith)).high-there
+
+pub unwrap-low-requires : goal.unwrap-low-requires
+unwrap-low-requires c = said-there _ c.value-in-loop-i.ensures (spelling-pair c.requires.1 c.loop-i.invariant (omega arith)).low-there
+
 pub overflow_mul-bytes : goal.overflow_mul-bytes
 overflow_mul-bytes c =
-    let pair : Pair c.args.digits.now c.loop-i.invariant.front c.loop-i.i = spelling-pair c.requires.1 c.loop-i.invariant c.loop-i-test.true in
-    omega (arith, (pair).high, c.value.ensures)
-
-pub bounds-digits-i-in-loop-i : goal.bounds-digits-i-in-loop-i
-bounds-digits-i-in-loop-i c =
-    let pair : Pair c.args.digits.now c.loop-i.invariant.front c.loop-i.i = spelling-pair c.requires.1 c.loop-i.invariant c.loop-i-test.true in
-    omega (arith, (pair).room)
+    omega (arith, (spelling-pair c.requires.1 c.loop-i.invariant (omega arith)).high, said-digit _ (sym c.value.ensures ∙ c.unwrap-high.ensures))
 
 pub overflow_add-bytes : goal.overflow_add-bytes
 overflow_add-bytes c =
-    let pair : Pair c.args.digits.now c.loop-i.invariant.front c.loop-i.i = spelling-pair c.requires.1 c.loop-i.invariant c.loop-i-test.true in
-    let p = pair in
-    omega (arith, p.high, p.low, c.value.ensures, c.value-in-loop-i.ensures)
-
-pub bounds-bytes-j : goal.bounds-bytes-j
-bounds-bytes-j c =
-    let pair : Pair c.args.digits.now c.loop-i.invariant.front c.loop-i.i = spelling-pair c.requires.1 c.loop-i.invariant c.loop-i-test.true in
-    omega (arith, (pair).room, c.requires.1, spelling-length c.requires.1 c.loop-i.invariant, c.loop-i.invariant.twice)
-
-pub overflow_add-i-in-loop-i : goal.overflow_add-i-in-loop-i
-overflow_add-i-in-loop-i c =
-    let pair : Pair c.args.digits.now c.loop-i.invariant.front c.loop-i.i = spelling-pair c.requires.1 c.loop-i.invariant c.loop-i-test.true in
-    omega (arith, (pair).room)
-
-pub overflow_add-j : goal.overflow_add-j
-overflow_add-j c =
-    let pair : Pair c.args.digits.now c.loop-i.invariant.front c.loop-i.i = spelling-pair c.requires.1 c.loop-i.invariant c.loop-i-test.true in
-    omega (arith, (pair).room, c.loop-i.invariant.twice)
-
-pub loop-i-smaller : goal.loop-i-smaller
-loop-i-smaller c =
-    let pair : Pair c.args.digits.now c.loop-i.invariant.front c.loop-i.i = spelling-pair c.requires.1 c.loop-i.invariant c.loop-i-test.true in
-    omega (arith, (pair).room)
+    let p = spelling-pair c.requires.1 c.loop-i.invariant (omega arith) in
+    omega (arith, p.high, p.low, said-digit _ (sym c.value.ensures ∙ c.unwrap-high.ensures), said-digit _ (sym c.value-in-loop-i.ensures ∙ c.unwrap-low.ensures))
 
 pub loop-i-preserved : goal.loop-i-preserved
 loop-i-preserved c =
-    spelling-more c.requires.1 c.loop-i.invariant c.loop-i-test.true _ _ c.value.ensures c.value-in-loop-i.ensures
-
-pub shape_of-bytes : goal.shape_of-bytes
-shape_of-bytes c = spelling-length c.requires.1 c.loop-i.invariant
+    let bytes = set c.loop-i.bytes c.loop-i.i (c.unwrap-high.result * 16 + c.unwrap-low.result) in
+    subst (λ (n : ℕ). Spelling c.args.digits.now c.args.bytes.now bytes n (c.loop-i.i + 1)) (omega arith)
+    (spelling-more c.requires.1 c.loop-i.invariant (omega arith) _ _ (said-digit _ (sym c.value.ensures ∙ c.unwrap-high.ensures))
+    (said-digit _ (sym c.value-in-loop-i.ensures ∙ c.unwrap-low.ensures)))
 
 pub returns : goal.returns
-returns c = spelling-done c.requires.1 c.loop-i.invariant c.loop-i-test.false
+returns c = spelling-last c.requires.1 c.loop-i.invariant c.loop-i-test.false

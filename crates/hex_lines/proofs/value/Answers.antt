@@ -1,18 +1,19 @@
 -- `hex_lines::value` meets its contract, by the ranges of the byte.
+use native.Mathlib.Omega.{arith}
 use Rattle.hex_lines.proofs.Digits.{below, number, between, letter, above}
 use Rattle.hex_lines.proofs.value.Goals as goal
 
-pub returns-then-b-lt48 : goal.returns-then-b-lt48
-returns-then-b-lt48 c = below _ c.if-b-lt48.true
+pub returns-in-48-to-57 : goal.returns-in-48-to-57
+returns-in-48-to-57 c = number _ (omega arith) (omega arith)
 
-pub returns-then-b-le57 : goal.returns-then-b-le57
-returns-then-b-le57 c = number _ c.if-b-lt48.false c.if-b-le57.true
+pub returns-in-97-to-102 : goal.returns-in-97-to-102
+returns-in-97-to-102 c = letter _ (omega arith) (omega arith)
 
-pub returns-then-b-lt97 : goal.returns-then-b-lt97
-returns-then-b-lt97 c = between _ c.if-b-le57.false c.if-b-lt97.true
+pub returns-in_default : goal.returns-in_default
+returns-in_default c = below _ (omega arith)
 
-pub returns-then-b-le102 : goal.returns-then-b-le102
-returns-then-b-le102 c = letter _ c.if-b-lt97.false c.if-b-le102.true
+pub returns-in_default-2 : goal.returns-in_default-2
+returns-in_default-2 c = between _ (omega arith) (omega arith)
 
-pub returns : goal.returns
-returns c = above _ c.if-b-le102.false
+pub returns-in_default-3 : goal.returns-in_default-3
+returns-in_default-3 c = above _ (omega arith)

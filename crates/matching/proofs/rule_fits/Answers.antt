@@ -9,22 +9,18 @@ match_side-l-requires c = record {
   rows = side-rows _ _ _ c.requires.side c.requires.well;
 }
 
-pub returns-in-Off : goal.returns-in-Off
-returns-in-Off c =
-    let a = c.args in
-    fit-off a.left.now a.right.now a.words.now a.a a.b c.match_side-l.result c.match_side-l.ensures
-    c.in-Off.is
+pub returns-in_default : goal.returns-in_default
+returns-in_default c = let a = c.args in fit-off a.left.now a.right.now a.words.now a.a a.b c.in_default.ensures
 
 pub match_side-r-requires : goal.match_side-r-requires
 match_side-r-requires c =
     let a = c.args in record {
-      valid = left-valid a.left.now a.right.now a.words.now a.a a.b c.match_side-l.result c.match_side-l.ensures
-          c.in_default.is c.requires.side c.requires.well;
+      valid = left-valid a.left.now a.right.now a.words.now a.a a.b c.in-Some.bound c.in-Some.ensures c.requires.side c.requires.well;
       rows = side-rows _ _ _ c.requires.side_2 c.requires.well_2;
     }
 
 pub returns : goal.returns
 returns c =
     let a = c.args in
-    fit_on a.left.now a.right.now a.words.now a.a a.b c.match_side-l.result c.match_side-l.ensures
-    c.in_default.is c.match_side-r.result c.match_side-r.ensures
+    rw c.is_some.ensures
+    (fit_on a.left.now a.right.now a.words.now a.a a.b c.in-Some.bound c.in-Some.ensures c.match_side-r.result c.match_side-r.ensures)

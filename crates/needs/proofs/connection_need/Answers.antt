@@ -3,9 +3,6 @@ use native.Mathlib.Omega.{arith}
 use Rattle.needs.proofs.Runs.{by-rule, by_runs}
 use Rattle.needs.proofs.connection_need.Goals as goal
 
-pub runs_need-requires : goal.runs_need-requires
-runs_need-requires c = c.requires.alike c.in-Congruence.is
-
 pub returns-in-Rule : goal.returns-in-Rule
 returns-in-Rule c = λ cs k.
     by-rule _ _ _ _ _ _ _ _ _ c.if-cost-eq0.false c.in-Rule.is c.size_of.ensures.0

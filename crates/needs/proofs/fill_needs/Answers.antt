@@ -12,111 +12,66 @@ use Rattle.entries.proofs.Connections.{length-oldest}
 use Rattle.forest.specs.Rows.{cost_in, connections_of}
 use Rattle.costs.specs.Costs.{cost_at, weigh}
 use Rattle.trees.specs.Sizes.{held_nodes}
-use Rattle.needs.specs.Needs.{Appends, Led, Needs, appended_by, need_at, path_nodes}
-use Rattle.needs.proofs.Filling.{counted-exact, from, led, needs-more, needs-none, to}
+use Rattle.needs.specs.Needs.{Appends, Led, appended_by, need_at, path_nodes}
+use Rattle.needs.proofs.Filling.{counted-exact, from, led, needs-more, to}
 use Rattle.needs.proofs.fill_needs.Goals as goal
+use Rattle.needs.proofs.fill_needs.Goals.{After-connection_at-c, In-loop-age}
 
-pub loop-age-init : goal.loop-age-init
-loop-age-init c =
-    (omega arith, c.requires.1, c.requires.2, needs-none _ _ _ _)
+leads : (c : After-connection_at-c) → (up : Bool) →
+    let a = c.args in
+    let x = c.connection_at-c.result in
+    Led a.lent.nodes.now a.lent.rows.now a.lent.sizes.now x.why (from up x) (to up x)
+leads c =
+    λ up. subst (λ (x : Connection). Led c.args.lent.nodes.now c.args.lent.rows.now c.args.lent.sizes.now x.why (from up x) (to up x))
+    (sym c.connection_at-c.ensures) (led c.args.lent.counts c.loop-age.age c.loop-age-test.true up)
+
+few : (c : In-loop-age) → c.loop-age.age < node_limit
+few c =
+    omega (arith, length-oldest (length c.args.lent.conns.now / connection_words) c.args.lent.conns.now, c.args.lent.counts.charged.climbs.rooted.short)
 
 pub cost_of-requires : goal.cost_of-requires
 cost_of-requires c =
-    let leads : (up : Bool) →
-    let a = c.args in
-    let x = c.connection_at-c.result in
-    Led a.nodes.now a.rows.now a.sizes.now x.why (from up x) (to up x) = λ up. subst (λ (x : Connection). Led c.args.nodes.now c.args.rows.now c.args.sizes.now x.why (from up x) (to up x))
-    (sym c.connection_at-c.ensures) (led c.requires.0 c.loop-age.age c.loop-age-test.true up) in
-    omega (arith, (leads false).right-in, (leads false).few.few)
+    let above = goal.at.cost_of-requires c in
+    omega (arith, ((leads above.After-connection_at-c) false).right-in, ((leads above.After-connection_at-c) false).few.few)
 
 pub connection_need-up-requires : goal.connection_need-up-requires
 connection_need-up-requires c =
-    let leads : (up : Bool) →
-    let a = c.args in
-    let x = c.connection_at-c.result in
-    Led a.nodes.now a.rows.now a.sizes.now x.why (from up x) (to up x) = λ up. subst (λ (x : Connection). Led c.args.nodes.now c.args.rows.now c.args.sizes.now x.why (from up x) (to up x))
-    (sym c.connection_at-c.ensures) (led c.requires.0 c.loop-age.age c.loop-age-test.true up) in
-    leads true
+    let above = goal.at.connection_need-up-requires c in
+    (leads above.After-connection_at-c) true
 
 pub connection_need-down-requires : goal.connection_need-down-requires
 connection_need-down-requires c =
-    let leads : (up : Bool) →
-    let a = c.args in
-    let x = c.connection_at-c.result in
-    Led a.nodes.now a.rows.now a.sizes.now x.why (from up x) (to up x) = λ up. subst (λ (x : Connection). Led c.args.nodes.now c.args.rows.now c.args.sizes.now x.why (from up x) (to up x))
-    (sym c.connection_at-c.ensures) (led c.requires.0 c.loop-age.age c.loop-age-test.true up) in
-    leads false
+    let above = goal.at.connection_need-down-requires c in
+    (leads above.After-connection_at-c) false
 
-pub overflow_cast-ups : goal.overflow_cast-ups
-overflow_cast-ups c =
-    let Said : Bool → ℕ → ℕ → Connection → Type 0 = λ up r cost x. let a = c.args in
-    let cs = connections_of a.conns.now in
-    Appends cost
-    (appended_by (λ k. get_or a.sizes.now k 0) (weigh a.rows.now cs) (path_nodes c.loop-age.ups c.loop-age.downs cs) a.nodes.now x.why (from up x)
-    (to up x)) r in
-    let said-up : Said true c.connection_need-up.result c.wide-cost.result c.connection_at-c.result = c.connection_need-up.ensures (connections_of c.args.conns.now) c.requires.0.charged.climbs in
-    omega (arith, (said-up).small)
+pub bounds-appended-age : goal.bounds-appended-age
+bounds-appended-age c =
+    let above = goal.at.bounds-appended-age c in
+    (few above.In-loop-age)
 
-pub offset_bounds-ups-age : goal.offset_bounds-ups-age
-offset_bounds-ups-age c =
-    let few : c.loop-age.age < node_limit = omega (arith, length-oldest (length c.args.conns.now / connection_words) c.args.conns.now, c.requires.0.charged.climbs.rooted.short) in
-    omega (arith, few)
-
-pub bounds-ups-age : goal.bounds-ups-age
-bounds-ups-age c =
-    let few : c.loop-age.age < node_limit = omega (arith, length-oldest (length c.args.conns.now / connection_words) c.args.conns.now, c.requires.0.charged.climbs.rooted.short) in
-    few
-
-pub overflow_cast-downs : goal.overflow_cast-downs
-overflow_cast-downs c =
-    let Said : Bool → ℕ → ℕ → Connection → Type 0 = λ up r cost x. let a = c.args in
-    let cs = connections_of a.conns.now in
-    Appends cost
-    (appended_by (λ k. get_or a.sizes.now k 0) (weigh a.rows.now cs) (path_nodes c.loop-age.ups c.loop-age.downs cs) a.nodes.now x.why (from up x)
-    (to up x)) r in
-    let said-down : Said false c.connection_need-down.result c.wide-cost.result c.connection_at-c.result = c.connection_need-down.ensures (connections_of c.args.conns.now) c.requires.0.charged.climbs in
-    omega (arith, (said-down).small)
-
-pub offset_bounds-downs-age : goal.offset_bounds-downs-age
-offset_bounds-downs-age c =
-    let few : c.loop-age.age < node_limit = omega (arith, length-oldest (length c.args.conns.now / connection_words) c.args.conns.now, c.requires.0.charged.climbs.rooted.short) in
-    omega (arith, few)
-
-pub bounds-downs-age : goal.bounds-downs-age
-bounds-downs-age c =
-    let few : c.loop-age.age < node_limit = omega (arith, length-oldest (length c.args.conns.now / connection_words) c.args.conns.now, c.requires.0.charged.climbs.rooted.short) in
-    few
-
-pub overflow_add-age : goal.overflow_add-age
-overflow_add-age c =
-    let few : c.loop-age.age < node_limit = omega (arith, length-oldest (length c.args.conns.now / connection_words) c.args.conns.now, c.requires.0.charged.climbs.rooted.short) in
-    omega (arith, few)
+pub bounds-appended-age-in-loop-age : goal.bounds-appended-age-in-loop-age
+bounds-appended-age-in-loop-age c =
+    let above = goal.at.bounds-appended-age-in-loop-age c in
+    (few above.In-loop-age)
 
 pub loop-age-preserved : goal.loop-age-preserved
 loop-age-preserved c =
-    let few : c.loop-age.age < node_limit = omega (arith, length-oldest (length c.args.conns.now / connection_words) c.args.conns.now, c.requires.0.charged.climbs.rooted.short) in
+    let above = goal.at.loop-age-preserved c in
     let Said : Bool → ℕ → ℕ → Connection → Type 0 = λ up r cost x. let a = c.args in
-    let cs = connections_of a.conns.now in
+    let cs = connections_of a.lent.conns.now in
     Appends cost
-    (appended_by (λ k. get_or a.sizes.now k 0) (weigh a.rows.now cs) (path_nodes c.loop-age.ups c.loop-age.downs cs) a.nodes.now x.why (from up x)
+    (appended_by (λ k. get_or a.lent.sizes.now k 0) (weigh a.lent.rows.now cs) (path_nodes c.loop-age.appended.ups c.loop-age.appended.downs cs) a.lent.nodes.now x.why (from up x)
     (to up x)) r in
     let exact : (up : Bool) (r : ℕ) →
     let a = c.args in
-    Said up r c.wide-cost.result c.connection_at-c.result → cost_at (nodes_of a.nodes.now) a.conns.now c.loop-age.age ≤ distance_limit →
-    r ≡ held_nodes (need_at (nodes_of a.nodes.now) a.conns.now c.loop-age.age up) = λ up r p. let e = c.wide-cost.ensures ∙ c.cost_of.ensures ∙ ap (λ (y : Connection). cost_in c.args.rows.now (cur y)) c.connection_at-c.ensures in
-    counted-exact c.requires.0 c.loop-age.age c.loop-age-test.true c.loop-age.ups c.loop-age.downs c.loop-age.invariant.3 up r
+    Said up r c.from-cost.result c.connection_at-c.result → cost_at (nodes_of a.lent.nodes.now) a.lent.conns.now c.loop-age.age ≤ distance_limit →
+    r ≡ held_nodes (need_at (nodes_of a.lent.nodes.now) a.lent.conns.now c.loop-age.age up) = λ up r p. let e = c.from-cost.ensures ∙ c.cost_of.ensures ∙ ap (λ (y : Connection). cost_in c.args.lent.rows.now (cur y)) c.connection_at-c.ensures in
+    counted-exact c.args.lent.counts c.loop-age.age c.loop-age-test.true c.loop-age.appended.ups c.loop-age.appended.downs c.loop-age.invariant.2 up r
     (subst₂ (Said up r) e c.connection_at-c.ensures p) in
-    let said-up : Said true c.connection_need-up.result c.wide-cost.result c.connection_at-c.result = c.connection_need-up.ensures (connections_of c.args.conns.now) c.requires.0.charged.climbs in
-    let said-down : Said false c.connection_need-down.result c.wide-cost.result c.connection_at-c.result = c.connection_need-down.ensures (connections_of c.args.conns.now) c.requires.0.charged.climbs in (
-      omega arith,
+    let said-up : Said true c.connection_need-up.result c.from-cost.result c.connection_at-c.result = c.connection_need-up.ensures (connections_of c.args.lent.conns.now) c.args.lent.counts.charged.climbs in
+    let said-down : Said false c.connection_need-down.result c.from-cost.result c.connection_at-c.result = c.connection_need-down.ensures (connections_of c.args.lent.conns.now) c.args.lent.counts.charged.climbs in (
+      simp length-set c.loop-age.invariant.0,
       simp length-set c.loop-age.invariant.1,
-      simp length-set c.loop-age.invariant.2,
-      needs-more _ _ c.loop-age.invariant.3 (omega (arith, few, c.loop-age.invariant.1)) (omega (arith, few, c.loop-age.invariant.2)) (exact true _ (said-up))
+      needs-more _ _ c.loop-age.invariant.2 (omega (arith, (few above.In-loop-age), c.loop-age.invariant.0)) (omega (arith, (few above.In-loop-age), c.loop-age.invariant.1)) (exact true _ (said-up))
           (exact false _ (said-down)),
     )
-
-pub returns : goal.returns
-returns c =
-    let a = c.args in
-    let e : c.loop-age.age ≡ length a.conns.now / connection_words = omega arith in
-    subst (Needs (nodes_of a.nodes.now) a.conns.now c.loop-age.ups c.loop-age.downs) e c.loop-age.invariant.3

@@ -11,77 +11,72 @@ use Rattle.needs.specs.declared.Need.{Need}
 use Rattle.needs.specs.Needs.{Comes, tally}
 use Rattle.needs.proofs.Climbed.{two_ways}
 use Rattle.needs.proofs.path_need.Goals as goal
+use Rattle.needs.proofs.path_need.Goals.{After-climb_need-b, In-Some}
 
-pub meet-m-requires : goal.meet-m-requires
-meet-m-requires c =
-    record { conns = c.requires.conns; nodes = c.requires.nodes; climbs = c.requires.charged.climbs; left_in = c.requires.left_in; right-in = c.requires.right-in }
+two : (c : In-Some) → (cs : List Connection) (n : ℕ) → Climbs cs n c.args.rows.now → c.args.left.0 < n → c.args.right.0 < n →
+    Two c.args.rows.now cs c.args.left.0 c.args.right.0 c.in-Some.top.0
+two c =
+    λ cs n k p q. two_at _ k (sym c.in-Some.is ∙ c.meet.ensures cs n k p q)
+
+two_here : (c : In-Some) → Two c.args.rows.now c.requires.conns c.args.left.0 c.args.right.0 c.in-Some.top.0
+two_here c =
+    (two c) c.requires.conns c.requires.nodes c.requires.charged.climbs c.requires.left_in c.requires.right-in
+
+abbrev Climb : In-Some → Need → List ℕ → List Connection → ℕ → Type 0
+Climb c r table cs from = let top = c.in-Some.top.0 in
+    Comes r (weigh c.args.rows.now cs from top) (tally table cs from top)
+
+sides : (c : After-climb_need-b) → let a = c.args in
+    let here = (goal.at.After-climb_need-b c).In-Some in
+    (cs : List Connection) (n : ℕ) → Climbs cs n a.rows.now → a.left.0 < n → a.right.0 < n →
+    Climb here c.climb_need-a.result a.appended.now.ups cs a.left.0 × Climb here c.climb_need-b.result a.appended.now.downs cs a.right.0
+sides c =
+    let above = goal.at.After-climb_need-b c in
+    λ cs n k p q.
+    let t = (two above.In-Some) cs n k p q in
+    (c.climb_need-a.ensures cs n k p t.left, c.climb_need-b.ensures cs n k q t.right)
+
+sides-here : (c : After-climb_need-b) →
+    let here = (goal.at.After-climb_need-b c).In-Some in
+    Climb here c.climb_need-a.result c.args.appended.now.ups c.requires.conns c.args.left.0
+    × Climb here c.climb_need-b.result c.args.appended.now.downs c.requires.conns c.args.right.0
+sides-here c =
+    (sides c) c.requires.conns c.requires.nodes c.requires.charged.climbs c.requires.left_in c.requires.right-in
 
 pub climb_need-a-requires : goal.climb_need-a-requires
 climb_need-a-requires c =
-    let two : (cs : List Connection) (n : ℕ) → Climbs cs n c.args.rows.now → c.args.left.0 < n → c.args.right.0 < n →
-    Two c.args.rows.now cs c.args.left.0 c.args.right.0 c.in-At.top.0 = λ cs n k p q. two_at _ k (sym c.in-At.is ∙ c.meet-m.ensures cs n k p q) in
-    let two_here : Two c.args.rows.now c.requires.conns c.args.left.0 c.args.right.0 c.in-At.top.0 = two c.requires.conns c.requires.nodes c.requires.charged.climbs c.requires.left_in c.requires.right-in in
-    record { conns = c.requires.conns; nodes = c.requires.nodes; charged = c.requires.charged; inside = c.requires.left_in; above = (two_here).left }
+    let above = goal.at.climb_need-a-requires c in
+    record { conns = c.requires.conns; nodes = c.requires.nodes; charged = c.requires.charged; inside = c.requires.left_in; above = (two_here above.In-Some).left }
 
 pub climb_need-b-requires : goal.climb_need-b-requires
 climb_need-b-requires c =
-    let two : (cs : List Connection) (n : ℕ) → Climbs cs n c.args.rows.now → c.args.left.0 < n → c.args.right.0 < n →
-    Two c.args.rows.now cs c.args.left.0 c.args.right.0 c.in-At.top.0 = λ cs n k p q. two_at _ k (sym c.in-At.is ∙ c.meet-m.ensures cs n k p q) in
-    let two_here : Two c.args.rows.now c.requires.conns c.args.left.0 c.args.right.0 c.in-At.top.0 = two c.requires.conns c.requires.nodes c.requires.charged.climbs c.requires.left_in c.requires.right-in in
-    record { conns = c.requires.conns; nodes = c.requires.nodes; charged = c.requires.charged; inside = c.requires.right-in; above = (two_here).right }
+    let above = goal.at.climb_need-b-requires c in
+    record { conns = c.requires.conns; nodes = c.requires.nodes; charged = c.requires.charged; inside = c.requires.right-in; above = (two_here above.In-Some).right }
 
 pub overflow_add-a : goal.overflow_add-a
 overflow_add-a c =
-    let Climb : Need → List ℕ → List Connection → ℕ → Type 0 = λ r table cs from. let top = c.in-At.top.0 in
-    Comes r (weigh c.args.rows.now cs from top) (tally table cs from top) in
-    let two : (cs : List Connection) (n : ℕ) → Climbs cs n c.args.rows.now → c.args.left.0 < n → c.args.right.0 < n →
-    Two c.args.rows.now cs c.args.left.0 c.args.right.0 c.in-At.top.0 = λ cs n k p q. two_at _ k (sym c.in-At.is ∙ c.meet-m.ensures cs n k p q) in
-    let sides : let a = c.args in
-    (cs : List Connection) (n : ℕ) → Climbs cs n a.rows.now → a.left.0 < n → a.right.0 < n →
-    Climb c.climb_need-a.result a.ups.now cs a.left.0 × Climb c.climb_need-b.result a.downs.now cs a.right.0 = λ cs n k p q.
-    let t = two cs n k p q in
-    (c.climb_need-a.ensures cs n k p t.left, c.climb_need-b.ensures cs n k q t.right) in
-    let sides-here : Climb c.climb_need-a.result c.args.ups.now c.requires.conns c.args.left.0
-    × Climb c.climb_need-b.result c.args.downs.now c.requires.conns c.args.right.0 = sides c.requires.conns c.requires.nodes c.requires.charged.climbs c.requires.left_in c.requires.right-in in
-    let w = sides-here in omega (arith, w.0.cost, w.1.cost)
+    let above = goal.at.overflow_add-a c in
+    let w = (sides-here above.After-climb_need-b) in omega (arith, w.0.cost, w.1.cost)
 
-pub overflow_add-a-in-At : goal.overflow_add-a-in-At
-overflow_add-a-in-At c =
-    let Climb : Need → List ℕ → List Connection → ℕ → Type 0 = λ r table cs from. let top = c.in-At.top.0 in
-    Comes r (weigh c.args.rows.now cs from top) (tally table cs from top) in
-    let two : (cs : List Connection) (n : ℕ) → Climbs cs n c.args.rows.now → c.args.left.0 < n → c.args.right.0 < n →
-    Two c.args.rows.now cs c.args.left.0 c.args.right.0 c.in-At.top.0 = λ cs n k p q. two_at _ k (sym c.in-At.is ∙ c.meet-m.ensures cs n k p q) in
-    let sides : let a = c.args in
-    (cs : List Connection) (n : ℕ) → Climbs cs n a.rows.now → a.left.0 < n → a.right.0 < n →
-    Climb c.climb_need-a.result a.ups.now cs a.left.0 × Climb c.climb_need-b.result a.downs.now cs a.right.0 = λ cs n k p q.
-    let t = two cs n k p q in
-    (c.climb_need-a.ensures cs n k p t.left, c.climb_need-b.ensures cs n k q t.right) in
-    let sides-here : Climb c.climb_need-a.result c.args.ups.now c.requires.conns c.args.left.0
-    × Climb c.climb_need-b.result c.args.downs.now c.requires.conns c.args.right.0 = sides c.requires.conns c.requires.nodes c.requires.charged.climbs c.requires.left_in c.requires.right-in in
-    let w = sides-here in omega (arith, w.0.nodes, w.1.nodes)
+pub overflow_add-a-in-Some : goal.overflow_add-a-in-Some
+overflow_add-a-in-Some c =
+    let above = goal.at.overflow_add-a-in-Some c in
+    let w = (sides-here above.After-climb_need-b) in omega (arith, w.0.nodes, w.1.nodes)
 
-pub returns-in-At : goal.returns-in-At
-returns-in-At c =
-    let two : (cs : List Connection) (n : ℕ) → Climbs cs n c.args.rows.now → c.args.left.0 < n → c.args.right.0 < n →
-    Two c.args.rows.now cs c.args.left.0 c.args.right.0 c.in-At.top.0 = λ cs n k p q. two_at _ k (sym c.in-At.is ∙ c.meet-m.ensures cs n k p q) in
-    let Climb : Need → List ℕ → List Connection → ℕ → Type 0 = λ r table cs from. let top = c.in-At.top.0 in
-    Comes r (weigh c.args.rows.now cs from top) (tally table cs from top) in
-    let sides : let a = c.args in
-    (cs : List Connection) (n : ℕ) → Climbs cs n a.rows.now → a.left.0 < n → a.right.0 < n →
-    Climb c.climb_need-a.result a.ups.now cs a.left.0 × Climb c.climb_need-b.result a.downs.now cs a.right.0 = λ cs n k p q.
-    let t = two cs n k p q in
-    (c.climb_need-a.ensures cs n k p t.left, c.climb_need-b.ensures cs n k q t.right) in
+pub returns-in-Some : goal.returns-in-Some
+returns-in-Some c =
+    let above = goal.at.returns-in-Some c in
     λ cs n k p q.
     let s = c.args in
-    let d = sides cs n k p q in
-    let e = two_ways s.ups.now s.downs.now s.left.0 s.right.0 k
-    (sym c.in-At.is ∙ c.meet-m.ensures cs n k p q) in
+    let d = (sides above.After-climb_need-b) cs n k p q in
+    let e = two_ways s.appended.now.ups s.appended.now.downs s.left.0 s.right.0 k
+    (sym c.in-Some.is ∙ c.meet.ensures cs n k p q) in
     record {
-      cost = omega (arith, c.held.ensures, d.0.cost, d.1.cost, (two cs n k p q).cost);
-      nodes = omega (arith, c.held-in-At.ensures, d.0.nodes, d.1.nodes, e);
+      cost = omega (arith, c.held.ensures, d.0.cost, d.1.cost, ((two above.In-Some) cs n k p q).cost);
+      nodes = omega (arith, c.held-in-Some.ensures, d.0.nodes, d.1.nodes, e);
     }
 
-pub returns-in-Nowhere : goal.returns-in-Nowhere
-returns-in-Nowhere c =
+pub returns-in-None : goal.returns-in-None
+returns-in-None c =
     absurd (never-nowhere c.requires.conns c.args.left.0 c.args.right.0 c.requires.same
-    (sym c.in-Nowhere.is ∙ c.meet-m.ensures c.requires.conns c.requires.nodes c.requires.charged.climbs c.requires.left_in c.requires.right-in))
+    (sym c.in-None.is ∙ c.meet.ensures c.requires.conns c.requires.nodes c.requires.charged.climbs c.requires.left_in c.requires.right-in))

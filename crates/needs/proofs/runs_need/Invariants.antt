@@ -1,6 +1,6 @@
 -- `needs::runs_need` meets its contract: what the pairs of children passed append, and what those left append, make the whole sum, held at
 -- the cap.
-use Prim.Native.Nat.{◌+◌, ◌-◌, ◌*◌}
+use Prim.Native.Nat.{◌+◌, ◌*◌}
 use mathlib.Core.List.{List}
 use mathlib.Core.Path.{◌≡◌}
 use lib.ListN.{get_or}
@@ -15,10 +15,7 @@ use Rattle.needs.proofs.runs_need.Given as goal
 
 abbrev pub invariant-loop-i : goal.invariant-loop-i
 invariant-loop-i l =
-    (l.n ≡ count_in l.nodes l.a.0)
-    × ((cs : List Connection) → Climbs cs (nodes_in l.nodes) l.rows →
-    Runs (λ k. get_or l.sizes k 0) (weigh l.rows cs) (path_nodes l.ups l.downs cs) l.nodes (l.a.0 * node_words + children_at) (l.b.0 * node_words + children_at)
-    (count_in l.nodes l.a.0) l.i l.before l.sum)
-
-abbrev pub decreases-loop-i : goal.decreases-loop-i
-decreases-loop-i l = l.n - l.i
+    (l.n ≡ count_in l.lent.nodes.now l.a.0)
+    × ((cs : List Connection) → Climbs cs (nodes_in l.lent.nodes.now) l.lent.rows.now →
+    Runs (λ k. get_or l.lent.sizes.now k 0) (weigh l.lent.rows.now cs) (path_nodes l.appended.ups l.appended.downs cs) l.lent.nodes.now (l.a.0 * node_words + children_at) (l.b.0 * node_words + children_at)
+    (count_in l.lent.nodes.now l.a.0) l.i l.before l.sum)

@@ -1,22 +1,21 @@
 use native.Mathlib.Omega.{arith}
-use mathlib.Core.Path.{◌∙◌}
+use Prim.Native.Nat.{◌+◌, ◌*◌}
+use Rattle.laws.proofs.Lent.{lent-at}
 use Rattle.entries.proofs.Children.{lower-all, lower-next, lower-off, lower-done}
 use Rattle.nodes.proofs.children_below.Goals as goal
 
-pub loop-i-init : goal.loop-i-init
-loop-i-init c = (c.wide-count.ensures ∙ c.word.ensures, lower-all _ _ _ _)
+pub loop-child-init : goal.loop-child-init
+loop-child-init c = lower-all _ _ _ _
 
-pub returns-then-n-wide : goal.returns-then-n-wide
-returns-then-n-wide c =
-    let at-loop = c in
-    let i = at-loop.loop-i.invariant in
-    lower-off i.1 (omega arith) (omega (arith, c.wide.ensures, c.word-in-loop-i.ensures))
+pub returns-then-n-from : goal.returns-then-n-from
+returns-then-n-from c =
+    let there = lent-at c.args.nodes.now (c.args.n * 10 + 2) c.from-count.result c.loop-child.child-index (omega arith) in
+    lower-off c.loop-child.invariant (omega (arith, c.word.ensures, c.from-count.ensures)) (omega (arith, c.from.ensures, there))
 
-pub loop-i-preserved : goal.loop-i-preserved
-loop-i-preserved c =
-    let at-loop = c in
-    let i = at-loop.loop-i.invariant in
-    (i.0, lower-next i.1 (omega arith) (omega (arith, c.wide.ensures, c.word-in-loop-i.ensures)))
+pub loop-child-preserved : goal.loop-child-preserved
+loop-child-preserved c =
+    let there = lent-at c.args.nodes.now (c.args.n * 10 + 2) c.from-count.result c.loop-child.child-index (omega arith) in
+    lower-next c.loop-child.invariant (omega arith) (omega (arith, c.from.ensures, there))
 
 pub returns : goal.returns
-returns c = lower-done c.loop-i.invariant.1 (omega arith)
+returns c = lower-done c.loop-child.invariant (omega (arith, c.word.ensures, c.from-count.ensures))

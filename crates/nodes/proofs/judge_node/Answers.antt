@@ -17,36 +17,21 @@ returns-then-word-gt-CHILD_LIMIT c = node_wide _ _ _ c.if-nodes-n.false (omega (
 
 pub returns-then-n-ge-NODE_LIMIT : goal.returns-then-n-ge-NODE_LIMIT
 returns-then-n-ge-NODE_LIMIT c =
-    let at-if1 = c in
-    let at-start = at-if1 in
-    let s = at-start.args in
-    node-many _ _ _ at-if1.if-nodes-n.false (omega (arith, c.word.ensures))
-    (omega (arith, length-nodes s.n s.nodes.now))
+    node-many _ _ _ c.if-nodes-n.false (omega (arith, c.word.ensures)) (omega (arith, length-nodes c.args.n c.args.nodes.now))
 
 pub children_below-requires : goal.children_below-requires
-children_below-requires c =
-    let at-if1 = c in
-    let at-start = at-if1 in
-    (at-start.requires, at-if1.if-nodes-n.false, omega (arith, c.word.ensures))
+children_below-requires c = (c.requires, c.if-nodes-n.false, omega (arith, c.word.ensures))
 
 pub returns-then-children_below : goal.returns-then-children_below
 returns-then-children_below c =
-    let at-word = c in
-    let at-if1 = at-word in
-    let at-start = at-if1 in
-    let s = at-start.args in
-    node-lower _ _ _ at-if1.if-nodes-n.false
-    (omega (arith, at-word.word.ensures)) (omega (arith, length-nodes s.n s.nodes.now)) true
+    let s = c.args in
+    node-lower _ _ _ c.if-nodes-n.false (omega (arith, c.word.ensures)) (omega (arith, length-nodes s.n s.nodes.now)) true
     (ap (λ (m : ℕ). all_below m (children_in s.nodes.now s.n)) (length-nodes s.n s.nodes.now)
     ∙ sym c.children_below.ensures ∙ c.if-children_below.true)
 
 pub returns-else-children_below : goal.returns-else-children_below
 returns-else-children_below c =
-    let at-word = c in
-    let at-if1 = at-word in
-    let at-start = at-if1 in
-    let s = at-start.args in
-    node-lower _ _ _ at-if1.if-nodes-n.false
-    (omega (arith, at-word.word.ensures)) (omega (arith, length-nodes s.n s.nodes.now)) false
+    let s = c.args in
+    node-lower _ _ _ c.if-nodes-n.false (omega (arith, c.word.ensures)) (omega (arith, length-nodes s.n s.nodes.now)) false
     (ap (λ (m : ℕ). all_below m (children_in s.nodes.now s.n)) (length-nodes s.n s.nodes.now)
     ∙ sym c.children_below.ensures ∙ c.if-children_below.false)

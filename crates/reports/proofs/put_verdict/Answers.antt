@@ -1,19 +1,27 @@
 -- `reports::put_verdict` meets its contract: by the verdict, one name and number or two.
+use mathlib.Core.Path.{◌≡◌, sym, ap, ◌∙◌}
+use lib.ListN.{length}
+use Prim.Native.Nat.{ℕ}
 use Rattle.model.specs.Text.{bytes}
 use Rattle.model.specs.Run.{verdict_text}
+use Rattle.laws.specs.Area.{splice}
 use Rattle.reports.specs.Reports.{one_field, two_fields}
 use Rattle.reports.proofs.put_verdict.Goals as goal
 
-pub returns-in-Accepted : goal.returns-in-Accepted
+pub returns-in-Ok : goal.returns-in-Ok
 unfolding verdict_text one_field bytes
-returns-in-Accepted c = record {
-  value = rw c.in-Accepted.is c.put_one.ensures.value;
-  room_after = rw c.in-Accepted.is c.put_one.ensures.room_after;
+returns-in-Ok c = record {
+  value = rw c.in-Ok.is c.put_one.ensures.value;
+  room_after = rw c.in-Ok.is c.put_one.ensures.room_after;
 }
 
-pub returns-in-Rejected : goal.returns-in-Rejected
+pub returns-in-Err : goal.returns-in-Err
 unfolding verdict_text two_fields bytes
-returns-in-Rejected c = record {
-  value = rw c.in-Rejected.is c.put_two.ensures.value;
-  room_after = rw c.in-Rejected.is c.put_two.ensures.room_after;
-}
+returns-in-Err c =
+    let said : two_fields (bytes "rejected ") c.from-number.result (bytes " term ") c.in-Err.field-0.place ≡ verdict_text c.args.verdict =
+    ap (λ (n : ℕ). two_fields (bytes "rejected ") n (bytes " term ") c.in-Err.field-0.place) c.from-number.ensures
+    ∙ sym (ap verdict_text c.in-Err.is) in
+    record {
+      value = c.put_two.ensures.value ∙ ap length said;
+      room_after = c.put_two.ensures.room_after ∙ ap (splice c.args.room.now 0) said;
+    }

@@ -3,8 +3,5 @@
 use Rattle.rule_table.proofs.Passes.{Checking}
 use Rattle.rule_table.proofs.all_known.Given as goal
 
-abbrev pub invariant-loop-left : goal.invariant-loop-left
-invariant-loop-left l = Checking l.words l.at l.items l.on l.pos l.left
-
-abbrev pub decreases-loop-left : goal.decreases-loop-left
-decreases-loop-left l = l.left
+abbrev pub invariant-loop-k : goal.invariant-loop-k
+invariant-loop-k l = Checking l.words l.at l.items l.on l.k

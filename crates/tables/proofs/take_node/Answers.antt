@@ -13,18 +13,22 @@ use Rattle.entries.proofs.Nodes.{nodes}
 use Rattle.decode.specs.Slot.{slot_by}
 use Rattle.tables.proofs.Slots.{says_some, says_none, grown-bad, grown}
 use Rattle.tables.proofs.Nodes.{node-put, node-table, node-judged}
+use Rattle.tables.proofs.take_node.Goals.{After-put_node}
 use Rattle.tables.proofs.take_node.Goals as goal
+
+-- the table as it comes back: the frame's words in their slot
+written : (c : After-put_node) →
+    put_mid (c.args.n * node_words) (c.args.n * node_words + node_words - c.args.n * node_words) c.args.nodes.now c.put_node.new.slot
+    ≡ splice c.args.nodes.now (c.args.n * node_words)
+    (slot_by words_of_node (part c.args.nodes.now (c.args.n * node_words) node_words) (node_frame c.args.bytes.now))
+written c = node-put c.args.nodes.now c.args.n c.requires.1 c.args.bytes.now _ c.put_node.ensures.slot_after
 
 pub returns-then-not-put_node : goal.returns-then-not-put_node
 unfolding add_node
 returns-then-not-put_node c =
-    let lent : List ℕ = let a = c.args in
-    put_mid (a.n * node_words) (a.n * node_words + node_words - a.n * node_words) a.nodes.now c.put_node.new.slot in
-    let written : let a = c.args in
-    lent ≡ splice a.nodes.now (a.n * node_words) (slot_by words_of_node (part a.nodes.now (a.n * node_words) node_words) (node_frame a.bytes.now)) = node-put c.args.nodes.now c.args.n c.requires.1 c.args.bytes.now _ c.put_node.ensures.slot_after in
     let e = says_none (node_frame c.args.bytes.now) c.put_node.ensures.value c.if-not-put_node.true-raw in record {
       nodes_grown = λ ns p. grown-bad (ap (add_node ns) e);
-      nodes_after = written;
+      nodes_after = written (goal.at.returns-then-not-put_node c).After-put_node;
     }
 
 pub judge_node-requires : goal.judge_node-requires
@@ -32,17 +36,13 @@ judge_node-requires c = (nodes c.args.nodes.now c.args.n c.requires.0.nodes c.re
 
 pub returns : goal.returns
 returns c =
-    let lent : List ℕ = let a = c.args in
-    put_mid (a.n * node_words) (a.n * node_words + node_words - a.n * node_words) a.nodes.now c.put_node.new.slot in
-    let written : let a = c.args in
-    lent ≡ splice a.nodes.now (a.n * node_words) (slot_by words_of_node (part a.nodes.now (a.n * node_words) node_words) (node_frame a.bytes.now)) = node-put c.args.nodes.now c.args.n c.requires.1 c.args.bytes.now _ c.put_node.ensures.slot_after in
     let a = c.args in
+    let w = written (goal.at.returns c).After-put_node in
     let y = says_some (node_frame a.bytes.now) c.put_node.ensures.value c.if-not-put_node.false-raw in record {
       nodes_grown = λ ns p.
           grown refl c.judge_node.ensures
-          (ap (λ (l : List ℕ). add_node (first_nodes a.n l) (node_entry l a.n)) (written)
+          (ap (λ (l : List ℕ). add_node (first_nodes a.n l) (node_entry l a.n)) w
           ∙ node-judged a.nodes.now a.n c.requires.1 a.bytes.now y.what y.is ns p)
-          (ap (λ (l : List ℕ). nodes_to l (suc a.n)) (written)
-          ∙ node-table a.nodes.now a.n c.requires.1 a.bytes.now y.what y.is ns p);
-      nodes_after = written;
+          (ap (λ (l : List ℕ). nodes_to l (suc a.n)) w ∙ node-table a.nodes.now a.n c.requires.1 a.bytes.now y.what y.is ns p);
+      nodes_after = w;
     }

@@ -2,13 +2,12 @@
 -- words say. The measure is what is left of the words.
 -- Assumes nothing.
 use Prim.Native.Nat.{◌-◌}
-use mathlib.Core.Path.{◌≡◌}
 use lib.ListN.{length}
 use Rattle.terms.proofs.Counted.{Counting}
 use Rattle.terms.proofs.whole_terms.Given as goal
 
 abbrev pub invariant-loop-pos : goal.invariant-loop-pos
-invariant-loop-pos l = (l.len ≡ length l.words) × Counting l.words l.pos l.n
+invariant-loop-pos l = Counting l.words l.pos l.n
 
 abbrev pub decreases-loop-pos : goal.decreases-loop-pos
 decreases-loop-pos l = length l.words - l.pos

@@ -32,9 +32,6 @@ bounds-room-at c =
     let long : length c.loop-i.room ≡ length c.args.room.now = filling-length c.loop-i.invariant.1.fills in
     omega (arith, c.loop-i.invariant.0, c.requires.0, long)
 
-pub overflow_add-i : goal.overflow_add-i
-overflow_add-i c = omega (arith, c.loop-i.invariant.0)
-
 pub loop-i-preserved : goal.loop-i-preserved
 loop-i-preserved c =
     (c.loop-i.invariant.0, closing-more c.requires.0 c.loop-i.invariant.1 (omega (arith, c.loop-i.invariant.0)) c.if-room-top-ne0.false)
@@ -45,4 +42,4 @@ shape_of-room c =
     long
 
 pub returns : goal.returns
-returns c = record { value = (closing-all c.requires.0 c.loop-i.invariant.1 (omega (arith, c.loop-i.invariant.0))).0; room_after = (closing-all c.requires.0 c.loop-i.invariant.1 (omega (arith, c.loop-i.invariant.0))).1 }
+returns c = record { value = omega (arith, (closing-all c.requires.0 c.loop-i.invariant.1 (omega (arith, c.loop-i.invariant.0))).0); room_after = (closing-all c.requires.0 c.loop-i.invariant.1 (omega (arith, c.loop-i.invariant.0))).1 }

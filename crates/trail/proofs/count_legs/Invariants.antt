@@ -13,9 +13,9 @@ use Rattle.trail.proofs.count_legs.Given as goal
 abbrev pub Counted : ℕ → List ℕ → Type 0
 Counted count done = count ≡ length done
 
-abbrev pub invariant-loop-at : goal.invariant-loop-at
-invariant-loop-at l =
+abbrev pub invariant-loop-to : goal.invariant-loop-to
+invariant-loop-to l =
     (cs : List Connection) (n : ℕ) → Climbs cs n l.rows → l.initial.at.0 < n → Above cs l.initial.at.0 l.to.0 → Climb l.rows cs n l.initial.at.0 l.to.0 l.at.0 (Counted l.count)
 
-abbrev pub decreases-loop-at : goal.decreases-loop-at
-decreases-loop-at l = depth_in l.rows l.at.0
+abbrev pub decreases-loop-to : goal.decreases-loop-to
+decreases-loop-to l = depth_in l.rows l.at.0

@@ -17,14 +17,6 @@ returns-then-cost_of-eq0 c =
     let none = ages-none a.rows.now a.n.0 (sym c.cost_of.ensures ∙ c.if-cost_of-eq0.true) in
     sym (ap (splice a.trail.now a.at) none ∙ splice-none a.trail.now a.at)
 
-pub overflow_cast-trail : goal.overflow_cast-trail
-overflow_cast-trail c = omega (arith, c.age_of.ensures)
-
-pub bounds-trail-at : goal.bounds-trail-at
-bounds-trail-at c =
-    let one : let a = c.args in ages_at a.rows.now a.n.0 ≡ (age_in a.rows.now a.n.0 - 1) ∷ [] = let a = c.args in ages-one a.rows.now a.n.0 (λ e. c.if-cost_of-eq0.false (c.cost_of.ensures ∙ e)) in
-    omega (arith, ap length (one))
-
 pub returns : goal.returns
 returns c =
     let one : let a = c.args in ages_at a.rows.now a.n.0 ≡ (age_in a.rows.now a.n.0 - 1) ∷ [] = let a = c.args in ages-one a.rows.now a.n.0 (λ e. c.if-cost_of-eq0.false (c.cost_of.ensures ∙ e)) in

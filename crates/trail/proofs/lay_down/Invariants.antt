@@ -14,10 +14,10 @@ use Rattle.trail.proofs.lay_down.Given as goal
 abbrev pub Laid : List ℕ → ℕ → List ℕ → ℕ → List ℕ → Type 0
 Laid old used new end done = (new ≡ splice old used done) × (end ≡ used + length done)
 
-abbrev pub invariant-loop-at : goal.invariant-loop-at
-invariant-loop-at l =
+abbrev pub invariant-loop-to : goal.invariant-loop-to
+invariant-loop-to l =
     (cs : List Connection) (n : ℕ) → Climbs cs n l.rows → l.initial.at.0 < n → Above cs l.initial.at.0 l.to.0 →
     Climb l.rows cs n l.initial.at.0 l.to.0 l.at.0 (Laid l.initial.trail l.used l.trail l.end)
 
-abbrev pub decreases-loop-at : goal.decreases-loop-at
-decreases-loop-at l = depth_in l.rows l.at.0
+abbrev pub decreases-loop-to : goal.decreases-loop-to
+decreases-loop-to l = depth_in l.rows l.at.0

@@ -4,6 +4,7 @@ use Prim.Native.Nat.{ℕ, ◌+◌, ◌-◌, ◌<◌, ◌≤◌}
 use mathlib.Core.List.{List, reverse}
 use mathlib.Core.Path.{◌≡◌, sym, ap, ap₂, ◌∙◌}
 use lib.ListN.{length}
+use Rattle.forest.specs.declared.Row.{Row}
 use Rattle.model.specs.declared.Connection.{Connection}
 use Rattle.model.specs.Limits.{term_limit}
 use Rattle.paths.specs.Meet.{top_of}
@@ -15,31 +16,31 @@ use Rattle.laws.proofs.Area.{length-splice, splice-more}
 use Rattle.trail.specs.Legs.{ages}
 use Rattle.trail.proofs.Laying.{laid_out, top-at}
 use Rattle.trail.proofs.lay_path.Goals as goal
-use Rattle.trail.proofs.lay_path.Goals.{After-count_legs, In-At}
+use Rattle.trail.proofs.lay_path.Goals.{After-count_legs, In-Some}
 
 -- where the climbs meet, by any connections that the rows stand for
-record Met (rows : List ℕ) (cs : List Connection) (l r t : ℕ) : Type 0 where
+record Met (rows : List Row) (cs : List Connection) (l r t : ℕ) : Type 0 where
   left : Above cs l t
   right : Above cs r t
   top : t ≡ top_of cs l r
 
 -- what is laid of both climbs, by any connections that the rows stand for
-record Laid (rows : List ℕ) (cs : List Connection) (old new : List ℕ) (used l r t turn ups : ℕ) : Type 0 where
+record Laid (rows : List Row) (cs : List Connection) (old new : List ℕ) (used l r t turn ups : ℕ) : Type 0 where
   trail_is : new ≡ splice old used (ages rows cs r t)
   turn_is : turn ≡ used + length (ages rows cs r t)
   ups-is : ups ≡ length (ages rows cs l t)
 
-met : (c : In-At) → (cs : List Connection) (n : ℕ) → Climbs cs n c.args.rows.now → c.args.left.0 < n → c.args.right.0 < n →
-    Met c.args.rows.now cs c.args.left.0 c.args.right.0 c.in-At.meeting.0
+met : (c : In-Some) → (cs : List Connection) (n : ℕ) → Climbs cs n c.args.rows.now → c.args.left.0 < n → c.args.right.0 < n →
+    Met c.args.rows.now cs c.args.left.0 c.args.right.0 c.in-Some.meeting.0
 met c = λ cs n k p q.
-    let e = sym c.in-At.is ∙ c.meet-m.ensures cs n k p q in
+    let e = sym c.in-Some.is ∙ c.meet.ensures cs n k p q in
     let t = two_at c.args.rows.now k e in
     record { left = t.left; right = t.right; top = top-at cs c.args.left.0 c.args.right.0 e }
 
-met-here : (c : In-At) → Met c.args.rows.now c.requires.1.conns c.args.left.0 c.args.right.0 c.in-At.meeting.0
+met-here : (c : In-Some) → Met c.args.rows.now c.requires.1.conns c.args.left.0 c.args.right.0 c.in-Some.meeting.0
 met-here c = (met c) c.requires.1.conns c.requires.1.nodes c.requires.1.climbs c.requires.1.left_in c.requires.1.right-in
 
-room : (c : In-At) → let t = c.in-At.meeting.0 in
+room : (c : In-Some) → let t = c.in-Some.meeting.0 in
     let climb = ages c.args.rows.now c.requires.1.conns in
     c.args.used + length (climb c.args.right.0 t) + length (climb c.args.left.0 t) ≤ term_limit
 room c = let e = (met-here c).top in
@@ -47,32 +48,28 @@ room c = let e = (met-here c).top in
     omega (arith, c.requires.1.few, ap (λ (x : ℕ). length (climb c.args.right.0 x)) e, ap (λ (x : ℕ). length (climb c.args.left.0 x)) e)
 
 laid : (c : After-count_legs) → (cs : List Connection) (n : ℕ) → Climbs cs n c.args.rows.now → c.args.left.0 < n → c.args.right.0 < n →
-    Laid c.args.rows.now cs c.args.trail.now c.lay_down-turn.new.trail c.args.used c.args.left.0 c.args.right.0 c.in-At.meeting.0
+    Laid c.args.rows.now cs c.args.trail.now c.lay_down-turn.new.trail c.args.used c.args.left.0 c.args.right.0 c.in-Some.meeting.0
     c.lay_down-turn.result c.count_legs.result
 laid c =
     let above = goal.at.After-count_legs c in
     λ cs n k p q.
-    let t = (met above.In-At) cs n k p q in
+    let t = (met above.In-Some) cs n k p q in
     let w = c.lay_down-turn.ensures cs n k q t.right in
     record { trail_is = w.0; turn_is = w.1; ups-is = c.count_legs.ensures cs n k p t.left }
 
 laid-here : (c : After-count_legs) → Laid c.args.rows.now c.requires.1.conns c.args.trail.now c.lay_down-turn.new.trail c.args.used c.args.left.0 c.args.right.0
-    c.in-At.meeting.0 c.lay_down-turn.result c.count_legs.result
+    c.in-Some.meeting.0 c.lay_down-turn.result c.count_legs.result
 laid-here c = (laid c) c.requires.1.conns c.requires.1.nodes c.requires.1.climbs c.requires.1.left_in c.requires.1.right-in
 
-pub meet-m-requires : goal.meet-m-requires
-meet-m-requires c =
-    record { conns = c.requires.1.conns; nodes = c.requires.1.nodes; climbs = c.requires.1.climbs; left_in = c.requires.1.left_in; right-in = c.requires.1.right-in }
-
-pub returns-in-Nowhere : goal.returns-in-Nowhere
-returns-in-Nowhere c =
+pub returns-in-None : goal.returns-in-None
+returns-in-None c =
     absurd (never-nowhere c.requires.1.conns c.args.left.0 c.args.right.0 c.requires.1.same
-    (sym c.in-Nowhere.is ∙ c.meet-m.ensures c.requires.1.conns c.requires.1.nodes c.requires.1.climbs c.requires.1.left_in c.requires.1.right-in))
+    (sym c.in-None.is ∙ c.meet.ensures c.requires.1.conns c.requires.1.nodes c.requires.1.climbs c.requires.1.left_in c.requires.1.right-in))
 
 pub lay_down-turn-requires : goal.lay_down-turn-requires
 lay_down-turn-requires c =
     let above = goal.at.lay_down-turn-requires c in
-    let few = room above.In-At in (
+    let few = room above.In-Some in (
       c.requires.0,
       omega arith,
       record {
@@ -80,7 +77,7 @@ lay_down-turn-requires c =
         nodes = c.requires.1.nodes;
         climbs = c.requires.1.climbs;
         inside = c.requires.1.right-in;
-        above = (met-here above.In-At).right;
+        above = (met-here above.In-Some).right;
         few = omega arith;
       },
     )
@@ -88,19 +85,19 @@ lay_down-turn-requires c =
 pub count_legs-requires : goal.count_legs-requires
 count_legs-requires c =
     let above = goal.at.count_legs-requires c in
-    let few = room above.In-At in
-    record { conns = c.requires.1.conns; nodes = c.requires.1.nodes; climbs = c.requires.1.climbs; inside = c.requires.1.left_in; above = (met-here above.In-At).left; few = omega arith }
+    let few = room above.In-Some in
+    record { conns = c.requires.1.conns; nodes = c.requires.1.nodes; climbs = c.requires.1.climbs; inside = c.requires.1.left_in; above = (met-here above.In-Some).left; few = omega arith }
 
 pub overflow_add-top : goal.overflow_add-top
 overflow_add-top c =
     let above = goal.at.overflow_add-top c in
-    let w = laid-here above.After-count_legs in omega (arith, w.turn_is, w.ups-is, (room above.In-At))
+    let w = laid-here above.After-count_legs in omega (arith, w.turn_is, w.ups-is, (room above.In-Some))
 
 pub lay_up-requires : goal.lay_up-requires
 lay_up-requires c =
     let above = goal.at.lay_up-requires c in
     let w = laid-here above.After-count_legs in
-    let few = room above.In-At in
+    let few = room above.In-Some in
     let turn = w.turn_is in
     let ups = w.ups-is in (
       ap length w.trail_is ∙ length-splice _ _ _ (omega arith) ∙ c.requires.0,
@@ -110,25 +107,25 @@ lay_up-requires c =
         nodes = c.requires.1.nodes;
         climbs = c.requires.1.climbs;
         inside = c.requires.1.left_in;
-        above = (met-here above.In-At).left;
+        above = (met-here above.In-Some).left;
         few = omega arith;
       },
     )
 
-pub returns-in-At : goal.returns-in-At
-returns-in-At c =
-    let above = goal.at.returns-in-At c in
+pub returns-in-Some : goal.returns-in-Some
+returns-in-Some c =
+    let above = goal.at.returns-in-Some c in
     λ cs n k p q.
     let a = c.args in
-    let t = (met above.In-At) cs n k p q in
+    let t = (met above.In-Some) cs n k p q in
     let w = (laid above.After-count_legs) cs n k p q in
     let here = laid-here above.After-count_legs in
-    let ds = ages a.rows.now cs a.right.0 c.in-At.meeting.0 in
-    let us = ages a.rows.now cs a.left.0 c.in-At.meeting.0 in
+    let ds = ages a.rows.now cs a.right.0 c.in-Some.meeting.0 in
+    let us = ages a.rows.now cs a.left.0 c.in-Some.meeting.0 in
     let turn : c.lay_down-turn.result + c.count_legs.result - length us ≡ a.used + length ds = omega (arith, w.turn_is, w.ups-is) in
     laid_out t.top
     (c.lay_up.ensures cs n k p t.left
     ∙ ap₂ (λ (x : List ℕ) (i : ℕ). splice x i (reverse us)) w.trail_is turn
-    ∙ splice-more a.trail.now a.used ds (reverse us) (omega (arith, w.turn_is, here.turn_is, (room above.In-At), c.requires.0)))
+    ∙ splice-more a.trail.now a.used ds (reverse us) (omega (arith, w.turn_is, here.turn_is, (room above.In-Some), c.requires.0)))
     w.turn_is
     (ap (λ (x : ℕ). c.lay_down-turn.result + x) w.ups-is)

@@ -1,66 +1,50 @@
 use native.Mathlib.Omega.{arith}
-use Prim.Native.Nat.{◌+◌, ◌*◌, ◌≤◌}
-use mathlib.Core.Path.{◌≡◌, sym, ◌∙◌}
+use Prim.Native.Nat.{ℕ, ◌+◌, ◌*◌, ◌≤◌}
+use mathlib.Core.Path.{◌≡◌, sym}
 use lib.ListN.{length}
 use Rattle.model.specs.Limits.{flat_words}
 use Rattle.model.specs.Flat.{size_of}
 use Rattle.entries.specs.Nodes.{nodes_of}
 use Rattle.entries.proofs.Nodes.{known}
-use Rattle.trees.proofs.Grown.{grown-none, grown-length, grown-room, grown-more, grown-all}
+use Rattle.trees.proofs.Grown.{grown-none, grown-room, grown-more, grown-all}
 use Rattle.trees.proofs.Planted.{term-long}
 use Rattle.trees.proofs.+write_tree.Goals as goal
+use Rattle.trees.proofs.+write_tree.Goals.{After-put_root}
+
+same : (t : ℕ) (c : After-put_root t) → length c.put_root.new.area ≡ length c.args.area.now
+same t c =
+    c.put_root.auto.area
+
+room : (t : ℕ) (c : After-put_root t) → c.args.at + flat_words * size_of (nodes_of c.args.nodes.now) c.args.n.0 ≤ length c.put_root.new.area
+room t c =
+    omega (arith, (same t c), c.requires.n_in_bounds)
 
 pub put_root-requires : goal.put_root-requires
 put_root-requires t c =
     (known c.args.n.0 c.requires.nodes_whole.0.stand c.requires.nodes_whole.1, omega (arith, term-long c.args.nodes.now c.requires.nodes_whole.0 c.args.n.0 c.requires.nodes_whole.1, c.requires.n_in_bounds))
 
-pub count_of-count-requires : goal.count_of-count-requires
-count_of-count-requires t c =
-    (known c.args.n.0 c.requires.nodes_whole.0.stand c.requires.nodes_whole.1).room
-
-pub overflow_add-end : goal.overflow_add-end
-overflow_add-end t c =
-    omega (arith, term-long c.args.nodes.now c.requires.nodes_whole.0 c.args.n.0 c.requires.nodes_whole.1, c.requires.n_in_bounds)
-
 pub loop-i-init : goal.loop-i-init
 loop-i-init t c = (c.count_of-count.ensures, grown-none _ _ _ _)
 
-pub child_of-requires : goal.child_of-requires
-child_of-requires t c =
-    let k = known c.args.n.0 c.requires.nodes_whole.0.stand c.requires.nodes_whole.1 in
-    (k.room, omega (arith, k.narrow, c.loop-i.invariant.0))
-
-pub overflow_add-i : goal.overflow_add-i
-overflow_add-i t c =
-    omega (arith, (known c.args.n.0 c.requires.nodes_whole.0.stand c.requires.nodes_whole.1).narrow, c.loop-i.invariant.0)
-
 pub loop-i-preserved : goal.loop-i-preserved
 loop-i-preserved t c =
-    let same : length c.put_root.new.area ≡ length c.args.area.now = c.put_root.auto.area in
-    let room : c.args.at + flat_words * size_of (nodes_of c.args.nodes.now) c.args.n.0 ≤ length c.put_root.new.area = omega (arith, same, c.requires.n_in_bounds) in (
+    let above = goal.at.loop-i-preserved t c in (
       c.loop-i.invariant.0,
-      grown-more c.requires.nodes_whole.0 c.requires.nodes_whole.1 (room) c.loop-i.invariant.1 (omega (arith, c.loop-i.invariant.0)) c.child_of.ensures c.write_tree-end.ensures.value c.write_tree-end.ensures.area_after,
+      grown-more c.requires.nodes_whole.0 c.requires.nodes_whole.1 (room t above.After-put_root) c.loop-i.invariant.1 (omega (arith, c.loop-i.invariant.0)) c.child_of.ensures c.write_tree-end.ensures.value c.write_tree-end.ensures.area_after,
     )
-
-pub shape_of-area : goal.shape_of-area
-shape_of-area t c =
-    let same : length c.put_root.new.area ≡ length c.args.area.now = c.put_root.auto.area in
-    let room : c.args.at + flat_words * size_of (nodes_of c.args.nodes.now) c.args.n.0 ≤ length c.put_root.new.area = omega (arith, same, c.requires.n_in_bounds) in
-    grown-length c.requires.nodes_whole.0 c.requires.nodes_whole.1 (room) c.loop-i.invariant.1 ∙ same
 
 pub returns : goal.returns
 returns t c =
-    let same : length c.put_root.new.area ≡ length c.args.area.now = c.put_root.auto.area in
-    let room : c.args.at + flat_words * size_of (nodes_of c.args.nodes.now) c.args.n.0 ≤ length c.put_root.new.area = omega (arith, same, c.requires.n_in_bounds) in record { value = (grown-all c.requires.nodes_whole.0 c.requires.nodes_whole.1 (room) c.loop-i.invariant.1 c.args.area.now (omega (arith, c.loop-i.invariant.0)) (sym (same)) c.put_root.ensures).0; area_after = (grown-all c.requires.nodes_whole.0 c.requires.nodes_whole.1 (room) c.loop-i.invariant.1 c.args.area.now (omega (arith, c.loop-i.invariant.0)) (sym (same)) c.put_root.ensures).1 }
+    let above = goal.at.returns t c in
+    record { value = (grown-all c.requires.nodes_whole.0 c.requires.nodes_whole.1 (room t above.After-put_root) c.loop-i.invariant.1 c.args.area.now (omega (arith, c.loop-i.invariant.0)) (sym (same t above.After-put_root)) c.put_root.ensures).0; area_after = (grown-all c.requires.nodes_whole.0 c.requires.nodes_whole.1 (room t above.After-put_root) c.loop-i.invariant.1 c.args.area.now (omega (arith, c.loop-i.invariant.0)) (sym (same t above.After-put_root)) c.put_root.ensures).1 }
 
 pub write_tree-end-requires : goal.write_tree-end-requires
 write_tree-end-requires t c =
-    let same : length c.put_root.new.area ≡ length c.args.area.now = c.put_root.auto.area in
-    let room : c.args.at + flat_words * size_of (nodes_of c.args.nodes.now) c.args.n.0 ≤ length c.put_root.new.area = omega (arith, same, c.requires.n_in_bounds) in
+    let above = goal.at.write_tree-end-requires t c in
     let low = c.requires.nodes_whole.0.stand.lower c.args.n.0 c.loop-i.i c.requires.nodes_whole.1 (omega (arith, c.loop-i.invariant.0)) in (
       omega (arith, low, c.child_of.ensures),
       (
         (c.requires.nodes_whole.0, omega (arith, c.requires.nodes_whole.1, low, c.child_of.ensures)),
-        grown-room c.requires.nodes_whole.0 c.requires.nodes_whole.1 room c.loop-i.invariant.1 (omega (arith, c.loop-i.invariant.0)) c.child_of.ensures,
+        grown-room c.requires.nodes_whole.0 c.requires.nodes_whole.1 (room t above.After-put_root) c.loop-i.invariant.1 (omega (arith, c.loop-i.invariant.0)) c.child_of.ensures,
       ),
     )

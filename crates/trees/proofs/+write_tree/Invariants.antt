@@ -1,5 +1,4 @@
 -- `trees::write_tree` meets its contract: the children passed are written behind the root. A child's number is below its node's.
-use Prim.Native.Nat.{◌-◌}
 use mathlib.Core.Path.{◌≡◌}
 use Rattle.entries.specs.Nodes.{count_in}
 use Rattle.trees.proofs.Grown.{Grown}
@@ -10,6 +9,3 @@ decreases-write_tree l = l.n.0
 
 abbrev pub invariant-loop-i : goal.invariant-loop-i
 invariant-loop-i l = (l.count ≡ count_in l.nodes l.n.0) × Grown l.nodes l.n.0 l.initial.area l.at l.area l.end l.i
-
-abbrev pub decreases-loop-i : goal.decreases-loop-i
-decreases-loop-i l = l.count - l.i

@@ -1,5 +1,5 @@
 -- `trees::fill_sizes` meets its contract: the sizes of the nodes passed are written, each from those before it.
-use Prim.Native.Nat.{◌-◌, ◌/◌, ◌≤◌}
+use Prim.Native.Nat.{◌/◌}
 use mathlib.Core.Path.{◌≡◌}
 use lib.ListN.{length}
 use Rattle.model.specs.Tables.{node_words}
@@ -8,7 +8,4 @@ use Rattle.trees.specs.Sizes.{filled_sizes}
 use Rattle.trees.proofs.fill_sizes.Given as goal
 
 abbrev pub invariant-loop-i : goal.invariant-loop-i
-invariant-loop-i l = (l.n ≡ length l.nodes / node_words) × (l.i ≤ l.n) × (l.sizes ≡ filled_sizes (nodes_of l.nodes) l.i l.initial.sizes)
-
-abbrev pub decreases-loop-i : goal.decreases-loop-i
-decreases-loop-i l = l.n - l.i
+invariant-loop-i l = (l.n ≡ length l.nodes / node_words) × (l.sizes ≡ filled_sizes (nodes_of l.nodes) l.i l.initial.sizes)

@@ -8,18 +8,6 @@ use Rattle.trees.proofs.sizes_from.Goals as goal
 pub loop-k-init : goal.loop-k-init
 loop-k-init c = (c.count_of-count.ensures, summed-none _ _ _ _ _)
 
-pub child_of-requires : goal.child_of-requires
-child_of-requires c =
-    (c.requires.room, omega (arith, c.requires.narrow, c.loop-k.invariant.0))
-
-pub size_of-sum-requires : goal.size_of-sum-requires
-size_of-sum-requires c =
-    omega (arith, c.requires.children c.loop-k.k (omega (arith, c.loop-k.invariant.0)), c.child_of.ensures)
-
-pub overflow_add-k : goal.overflow_add-k
-overflow_add-k c =
-    omega (arith, c.loop-k.invariant.0, c.requires.narrow)
-
 pub returns : goal.returns
 returns c = (
   summed-all c.loop-k.invariant.1 (omega (arith, c.loop-k.invariant.0)),

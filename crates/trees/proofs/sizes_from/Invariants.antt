@@ -1,5 +1,5 @@
 -- `trees::sizes_from` meets its contract: the sizes of the children passed are added, and those left make up the rest of the sum.
-use Prim.Native.Nat.{◌+◌, ◌-◌, ◌*◌}
+use Prim.Native.Nat.{◌+◌, ◌*◌}
 use mathlib.Core.Path.{◌≡◌}
 use lib.ListN.{get_or}
 use Rattle.model.specs.Tables.{node_words, children_at}
@@ -10,6 +10,3 @@ use Rattle.trees.proofs.sizes_from.Given as goal
 abbrev pub invariant-loop-k : goal.invariant-loop-k
 invariant-loop-k l =
     (l.count ≡ count_in l.nodes l.n.0) × Summed (λ a. get_or l.sizes a 0) l.nodes (l.n.0 * node_words + children_at) (count_in l.nodes l.n.0) l.i l.sum l.k
-
-abbrev pub decreases-loop-k : goal.decreases-loop-k
-decreases-loop-k l = l.count - l.k

@@ -42,45 +42,22 @@ use Rattle.writer.proofs.+write_congruence_write_hop_write_path.Goals as goal
 use Rattle.writer.proofs.+write_congruence_write_hop_write_path.Answers.Places.{all, all-is, asked, begun, behind, congruence-old-is, congruent, fits, from_in, from_is, here, hop-old-is, kept, laid, more, new_is, reached, rule-terms, spot, state, to_is, twin-terms, whole}
 mod Places
 
-pub write_congruence-count_of-n-requires : goal.write_congruence-count_of-n-requires
-write_congruence-count_of-n-requires t c = c.requires.counts.1.twins.left-known.room
-
-pub write_congruence-words_of-back-requires : goal.write_congruence-words_of-back-requires
-write_congruence-words_of-back-requires t c = c.requires.counts.1.twins.left-known.small
-
 pub write_congruence-overflow_sub-back : goal.write_congruence-overflow_sub-back
 write_congruence-overflow_sub-back t c =
     let above = goal.at.write_congruence-overflow_sub-back t c in
     let a = c.args in
-    omega (arith, (all-is t above.After-words_of-back), one-long (term_of (nodes_of a.nodes.now) a.a.0))
+    omega (arith, (all-is t above.After-words_of-back), one-long (term_of (nodes_of a.lent.nodes.now) a.a.0))
 
 pub write_congruence-loop-i-init : goal.write_congruence-loop-i-init
 write_congruence-loop-i-init t c =
     let above = goal.at.write_congruence-loop-i-init t c in
     let a = c.args in
     let k = c.requires.writer_asks.stood in
-    let some = one-long (term_of (nodes_of a.nodes.now) a.a.0) in (
+    let some = one-long (term_of (nodes_of a.lent.nodes.now) a.a.0) in (
       kept-all,
-      twin-start a.nodes.now a.conns.now a.age a.a.0 a.b.0 _ (accepted-nodes c.requires.counts.0) c.requires.counts.1.left_in c.requires.counts.1.right-in
-          c.count_of-n.ensures (c.count_of-n.ensures ∙ c.requires.counts.1.twins.even) (cut k) (omega (arith, length-pre k)) (omega (arith, length-post k, (all-is t above.After-words_of-back))),
+      twin-start a.lent.nodes.now a.lent.conns.now a.age a.a.0 a.b.0 _ (accepted-nodes c.args.lent.counts) c.requires.matched.left_in c.requires.matched.right-in
+          c.count_of-n.ensures (c.count_of-n.ensures ∙ c.requires.matched.twins.even) (cut k) (omega (arith, length-pre k)) (omega (arith, length-post k, (all-is t above.After-words_of-back))),
     )
-
-pub write_congruence-child_of-x-requires : goal.write_congruence-child_of-x-requires
-write_congruence-child_of-x-requires t c =
-    let above = goal.at.write_congruence-child_of-x-requires t c in
-    let m = c.requires.counts.1.twins in
-    (m.left-known.room, omega (arith, (more t above.In-loop-i), m.left-known.narrow))
-
-pub write_congruence-child_of-y-requires : goal.write_congruence-child_of-y-requires
-write_congruence-child_of-y-requires t c =
-    let above = goal.at.write_congruence-child_of-y-requires t c in
-    let m = c.requires.counts.1.twins in
-    (m.right-known.room, omega (arith, (more t above.In-loop-i), m.left-known.narrow))
-
-pub write_congruence-words_of-back-requires-in-loop-i : goal.write_congruence-words_of-back-requires-in-loop-i
-write_congruence-words_of-back-requires-in-loop-i t c =
-    let above = goal.at.write_congruence-words_of-back-requires-in-loop-i t c in
-    omega (arith, (reached t above.After-child_of-y).left_in, c.requires.counts.0.whole.stand.few)
 
 pub write_congruence-overflow_sub-back-in-loop-i : goal.write_congruence-overflow_sub-back-in-loop-i
 write_congruence-overflow_sub-back-in-loop-i t c =
@@ -104,16 +81,11 @@ write_congruence-write_path-end-requires t c =
     let q = post-plain c.requires.writer_asks.stood in (
       omega arith,
       (
-        (c.requires.counts.0, (reached t above.After-child_of-y)),
+        (reached t above.After-child_of-y),
         part-asked (child-part (state t above.After-child_of-y) p q (spot t above.After-words_of-back-in-loop-i) refl (behind t above.After-words_of-back-in-loop-i) refl) (whole t above.Start) (c.loop-i.invariant.0.long ∙ c.requires.writer_asks.long) c.args.used
             (child-few (state t above.After-child_of-y) p q (spot t above.After-words_of-back-in-loop-i) refl (behind t above.After-words_of-back-in-loop-i) refl c.args.used c.requires.writer_asks.few),
       ),
     )
-
-pub write_congruence-words_of-front-requires : goal.write_congruence-words_of-front-requires
-write_congruence-words_of-front-requires t c =
-    let above = goal.at.write_congruence-words_of-front-requires t c in
-    omega (arith, (reached t above.After-child_of-y).right-in, c.requires.counts.0.whole.stand.few)
 
 pub write_congruence-overflow_add-front : goal.write_congruence-overflow_add-front
 write_congruence-overflow_add-front t c =
@@ -121,23 +93,13 @@ write_congruence-overflow_add-front t c =
     let f = fits t above.After-child_of-y in
     omega (arith, f.place_in, f.end-in, (new_is t above.After-words_of-front).1)
 
-pub write_congruence-overflow_add-i : goal.write_congruence-overflow_add-i
-write_congruence-overflow_add-i t c =
-    let above = goal.at.write_congruence-overflow_add-i t c in
-    omega (arith, (more t above.In-loop-i), c.requires.counts.1.twins.left-known.narrow)
-
 pub write_congruence-loop-i-preserved : goal.write_congruence-loop-i-preserved
 write_congruence-loop-i-preserved t c =
     let above = goal.at.write_congruence-loop-i-preserved t c in (
       kept_more c.loop-i.invariant.0 c.write_path-end.ensures.kept,
       child-next (state t above.After-child_of-y) (pre-plain c.requires.writer_asks.stood) (post-plain c.requires.writer_asks.stood) (spot t above.After-words_of-back-in-loop-i) refl (behind t above.After-words_of-back-in-loop-i) refl (whole t above.Start)
-          c.write_path-end.ensures.wrote (leads c.requires.counts.0 (reached t above.After-child_of-y)) _ (omega (arith, (new_is t above.After-words_of-front).0)),
+          c.write_path-end.ensures.wrote (leads c.args.lent.counts (reached t above.After-child_of-y)) _ (omega (arith, (new_is t above.After-words_of-front).0)),
     )
-
-pub write_congruence-shape_of-area : goal.write_congruence-shape_of-area
-write_congruence-shape_of-area t c =
-    let above = goal.at.write_congruence-shape_of-area t c in
-    ran-long (all t above.After-loop-i) c.requires.writer_asks.room
 
 pub write_congruence-returns : goal.write_congruence-returns
 write_congruence-returns t c =
@@ -147,28 +109,25 @@ write_congruence-returns t c =
       kept = c.loop-i.invariant.0;
     }
 
-pub write_hop-connection_at-c-requires : goal.write_hop-connection_at-c-requires
-write_hop-connection_at-c-requires t c = omega (arith, c.requires.counts.1)
-
 pub write_hop-words_of-old-requires : goal.write_hop-words_of-old-requires
 write_hop-words_of-old-requires t c =
     let above = goal.at.write_hop-words_of-old-requires t c in
-    omega (arith, (from_in t above.After-start_of-a), c.requires.counts.0.whole.stand.few)
+    omega (arith, (from_in t above.After-start_of-a), c.args.lent.counts.whole.stand.few)
 
 pub write_hop-append-requires : goal.write_hop-append-requires
 write_hop-append-requires t c =
     let above = goal.at.write_hop-append-requires t c in
     let to_in : let a = c.args in
-    c.start_of-b.result.0 < nodes_in a.nodes.now = let a = c.args in
-    omega (arith, ap (λ (x : NodeNo). x.0) (to_is t above.After-start_of-b), start-in c.requires.counts.0.support a.age c.requires.counts.1 (not a.up)) in
+    c.start_of-b.result.0 < nodes_in a.lent.nodes.now = let a = c.args in
+    omega (arith, ap (λ (x : NodeNo). x.0) (to_is t above.After-start_of-b), start-in c.args.lent.counts.support a.age c.requires.listed (not a.up)) in
     let a = c.args in
     let k = asked t above.After-start_of-a in
-    let ns = nodes_of a.nodes.now in
+    let ns = nodes_of a.lent.nodes.now in
     let m = mark_for c.in-Rule.rule.0 c.in-Rule.d a.up in
     let old = hop-old-is t above.After-words_of-old in
     let place = k.stood.room in
     let room = k.room in record {
-      nodes_whole = (c.requires.counts.0.whole, to_in, mark-word (walked c.in-Rule.d a.up) c.mark_for.ensures);
+      nodes_whole = (c.args.lent.counts.whole, to_in, mark-word (walked c.in-Rule.d a.up) c.mark_for.ensures);
       whole_nodes = (k.stood.whole.0, k.stood.whole.2, omega arith);
       post_in_bounds = omega (
         arith,
@@ -181,14 +140,11 @@ pub write_hop-write_congruence-requires : goal.write_hop-write_congruence-requir
 write_hop-write_congruence-requires t c =
     let above = goal.at.write_hop-write_congruence-requires t c in
     let a = c.args in
-    let twin = matched c.requires.counts.0.support a.age c.requires.counts.1 a.up (congruent t above.In-Congruence) in (
+    let twin = matched c.args.lent.counts.support a.age c.requires.listed a.up (congruent t above.In-Congruence) in (
       omega arith,
       (
-        (
-          c.requires.counts.0,
-          subst₂ (λ (x y : NodeNo). Matched a.nodes.now a.conns.now a.age x.0 y.0) (sym (from_is t above.After-start_of-a)) (sym (to_is t above.After-start_of-b)) twin,
-        ),
-        subst (λ (f : Terms). WriterAsks a.trail.now a.area.now a.at (term_words (nodes_of a.nodes.now) c.start_of-a.result.0) f a.used)
+        subst₂ (λ (x y : NodeNo). Matched a.lent.nodes.now a.lent.conns.now a.age x.0 y.0) (sym (from_is t above.After-start_of-a)) (sym (to_is t above.After-start_of-b)) twin,
+        subst (λ (f : Terms). WriterAsks a.trail.now a.area.now a.at (term_words (nodes_of a.lent.nodes.now) c.start_of-a.result.0) f a.used)
             (twin-terms t above.In-Congruence) (asked t above.After-start_of-a),
       ),
     )
@@ -197,7 +153,7 @@ pub write_hop-returns-in-Rule : goal.write_hop-returns-in-Rule
 write_hop-returns-in-Rule t c =
     let above = goal.at.write_hop-returns-in-Rule t c in
     let a = c.args in
-    let ns = nodes_of a.nodes.now in
+    let ns = nodes_of a.lent.nodes.now in
     let r = c.in-Rule.rule.0 in
     let b = c.start_of-b.result.0 in
     let d = ap direction_of c.mark_for.ensures ∙ same-direction (walked c.in-Rule.d a.up) in
@@ -215,7 +171,7 @@ pub write_hop-returns-in-Congruence : goal.write_hop-returns-in-Congruence
 write_hop-returns-in-Congruence t c =
     let above = goal.at.write_hop-returns-in-Congruence t c in
     let a = c.args in
-    let ns = nodes_of a.nodes.now in record {
+    let ns = nodes_of a.lent.nodes.now in record {
       wrote = subst₂
           (λ (x : NodeNo) (f : Terms).
           Wrote a.area.now a.at (term_words ns x.0) f c.write_congruence.new.area c.write_congruence.result)
@@ -225,7 +181,7 @@ write_hop-returns-in-Congruence t c =
 
 pub write_path-lay_path-way-requires : goal.write_path-lay_path-way-requires
 write_path-lay_path-way-requires t c =
-    (c.requires.writer_asks.long, layable c.requires.counts.0 c.requires.counts.1 c.args.used c.requires.writer_asks.few)
+    (c.requires.writer_asks.long, layable c.args.lent.counts c.requires.reached c.args.used c.requires.writer_asks.few)
 
 pub write_path-loop-top-init : goal.write_path-loop-top-init
 write_path-loop-top-init t c = (kept-all, λ l r b. hopping-none b)
@@ -240,10 +196,10 @@ write_path-write_hop-end-requires t c =
     let above = goal.at.write_path-write_hop-end-requires t c in
     let n = next (here t above.At-loop-top) c.loop-top-test.true c.age_on-age.ensures refl in
     let age = n.below in
-    let bound = c.requires.counts.1.few in (
+    let bound = c.requires.reached.few in (
       omega arith,
       (
-        (c.requires.counts.0, omega arith),
+        omega arith,
         hopping-asked (begun t above.After-lay_path-way) c.loop-top-test.true n (c.loop-top.invariant.0.long ∙ (begun t above.After-lay_path-way).asked.long),
       ),
     )
@@ -256,11 +212,6 @@ write_path-loop-top-preserved t c =
           hopping-next g lt (next (c.loop-top.invariant.1 a b g) lt c.age_on-age.ensures refl)
           c.write_hop-end.ensures.kept.same c.write_hop-end.ensures.wrote,
     )
-
-pub write_path-shape_of-area : goal.write_path-shape_of-area
-write_path-shape_of-area t c =
-    let above = goal.at.write_path-shape_of-area t c in
-    ran-long (hopped (here t above.At-loop-top) c.loop-top-test.false) c.requires.writer_asks.room
 
 pub write_path-returns : goal.write_path-returns
 write_path-returns t c =

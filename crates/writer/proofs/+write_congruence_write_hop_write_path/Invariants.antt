@@ -1,6 +1,6 @@
 -- The proof of the cycle of calls {write_congruence, write_hop, write_path}. A path below the bound b walks connections of ages a < b, a
 -- congruence of age a asks for paths below a: so the measures are 3b, 3a + 2 and 3a + 1.
-use Prim.Native.Nat.{ℕ, ◌+◌, ◌-◌, ◌*◌}
+use Prim.Native.Nat.{ℕ, ◌+◌, ◌*◌}
 use lib.ListN.{length}
 use Rattle.model.specs.Flat.{later}
 use Rattle.entries.specs.Connections.{oldest}
@@ -23,18 +23,12 @@ decreases-write_path l = 3 * l.bound
 abbrev pub invariant-write_congruence-loop-i : goal.invariant-write_congruence-loop-i
 invariant-write_congruence-loop-i l =
     Kept l.used l.initial.trail l.trail
-    × State l.nodes l.conns l.age l.a l.b l.n l.initial.area l.spot (to_come l.nodes l.a.0 l.n l.i) (to_come l.nodes l.b.0 l.n l.i) l.area l.front l.back l.end
-
-abbrev pub decreases-write_congruence-loop-i : goal.decreases-write_congruence-loop-i
-decreases-write_congruence-loop-i l = l.n - l.i
+    × State l.lent.nodes.now l.lent.conns.now l.age l.a l.b l.n l.initial.area l.spot (to_come l.lent.nodes.now l.a.0 l.n l.i) (to_come l.lent.nodes.now l.b.0 l.n l.i) l.area l.front l.back l.end
 
 abbrev pub invariant-write_path-loop-top : goal.invariant-write_path-loop-top
 invariant-write_path-loop-top l =
-    let ns = nodes_of l.nodes in
+    let ns = nodes_of l.lent.nodes.now in
     Kept l.used l.initial.trail l.trail
-    × ((p q : ℕ) → Begun ns l.conns l.bound l.spot l.initial.area l.initial.trail l.used l.way.turn l.initial.top p q →
-    Hopping ns l.conns l.bound q (later ns (oldest l.bound l.conns) p q) (pre_of l.initial.area l.spot (length (term_words ns p))) (post_of l.initial.area l.spot) l.initial.area l.spot.end
+    × ((p q : ℕ) → Begun ns l.lent.conns.now l.bound l.spot l.initial.area l.initial.trail l.used l.way.turn l.way.top p q →
+    Hopping ns l.lent.conns.now l.bound q (later ns (oldest l.bound l.lent.conns.now) p q) (pre_of l.initial.area l.spot (length (term_words ns p))) (post_of l.initial.area l.spot) l.initial.area l.spot.end
     l.way.turn l.used l.trail l.area l.top l.end)
-
-abbrev pub decreases-write_path-loop-top : goal.decreases-write_path-loop-top
-decreases-write_path-loop-top l = l.top

@@ -2,118 +2,75 @@
 use native.Mathlib.Omega.{arith}
 use Prim.Native.Nat.{ℕ, ◌*◌, ◌+◌, ◌≤◌}
 use mathlib.Core.List.{List, ◌++◌}
-use mathlib.Core.Path.{◌≡◌, sym, subst, ◌∙◌}
+use mathlib.Core.Path.{refl, sym, subst, ◌∙◌}
 use lib.ListN.{length, take, drop}
 use lib.Seq.{length-take-le, take_at}
-use Rattle.model.specs.declared.Judgement.{Judgement}
-use Rattle.model.specs.Limits.{node_limit}
+use Rattle.model.specs.Judged.{Judgement}
 use Rattle.model.specs.Tables.{node_words}
-use Rattle.entries.specs.Nodes.{NodesWhole}
+use Rattle.model.specs.Run.{connection_turn}
+use Rattle.laws.proofs.Handed.{handed_on}
 use Rattle.connections.specs.Classes.{Sofar}
 use Rattle.connections.proofs.Whole.{sofar-few}
 use Rattle.tables.specs.Grown.{Onward}
-use Rattle.frames.specs.Step.{classes_for}
-use Rattle.frames.proofs.Front.{few-nodes, front-whole, front-sofar}
-use Rattle.frames.proofs.Connections.{connection-grown, connection-refused, connection-taken}
+use Rattle.frames.proofs.Ordered.{refused}
+use Rattle.frames.proofs.Connections.{held-few, held-classes, held-whole, held-sofar, connection-grown, connection-taken}
 use Rattle.frames.proofs.steps.connection_step.Goals as goal
 
 pub overflow_mul-words : goal.overflow_mul-words
-overflow_mul-words c =
-    let few : c.args.counts.nodes ≤ node_limit = few-nodes _ c.args.counts.nodes c.requires.0.nodes c.requires.0.table in
-    omega (arith, few)
+overflow_mul-words c = omega (arith, held-few c.requires.0 c.requires.1)
 
 pub slice_bounds-ready-end : goal.slice_bounds-ready-end
-slice_bounds-ready-end c =
-    let few : c.args.counts.nodes ≤ node_limit = few-nodes _ c.args.counts.nodes c.requires.0.nodes c.requires.0.table in
-    let inside : c.args.counts.nodes ≤ length c.args.classes.now = omega (arith, few, c.requires.1.classes) in
-    inside
+slice_bounds-ready-end c = held-classes c.requires.0 c.requires.1
 
 pub slice_bounds-ready-end-2 : goal.slice_bounds-ready-end-2
-slice_bounds-ready-end-2 c =
-    let few : c.args.counts.nodes ≤ node_limit = few-nodes _ c.args.counts.nodes c.requires.0.nodes c.requires.0.table in
-    let inside : c.args.counts.nodes ≤ length c.args.classes.now = omega (arith, few, c.requires.1.classes) in
-    sym (length-take-le _ _ (inside))
+slice_bounds-ready-end-2 c = sym (length-take-le _ _ (held-classes c.requires.0 c.requires.1))
 
 pub ready-requires : goal.ready-requires
 ready-requires c =
-    let few : c.args.counts.nodes ≤ node_limit = few-nodes _ c.args.counts.nodes c.requires.0.nodes c.requires.0.table in
-    let inside : c.args.counts.nodes ≤ length c.args.classes.now = omega (arith, few, c.requires.1.classes) in
-    subst (λ (x : ℕ). x ≤ node_limit) (sym (length-take-le _ c.args.classes.now (inside))) (few)
+    let few = held-few c.requires.0 c.requires.1 in
+    omega (arith, few, length-take-le _ _ (held-classes c.requires.0 c.requires.1))
 
 pub slice_bounds-take_connection-end : goal.slice_bounds-take_connection-end
 slice_bounds-take_connection-end c =
-    let few : c.args.counts.nodes ≤ node_limit = few-nodes _ c.args.counts.nodes c.requires.0.nodes c.requires.0.table in
-    let counted : c.args.counts.nodes * node_words ≤ length c.args.nodes.now = omega (arith, few, c.requires.1.nodes) in
-    sym (length-take-le _ _ (counted))
+    sym (length-take-le _ _ (omega (arith, held-few c.requires.0 c.requires.1, c.requires.1.nodes)))
 
-pub returns-in-Faulty : goal.returns-in-Faulty
-returns-in-Faulty c rws area room s h =
+pub returns-in_err-take_connection : goal.returns-in_err-take_connection
+returns-in_err-take_connection c rws area room s h =
     let a = c.args in
-    connection-refused a.counts a.nodes.now a.conns.now _ a.classes.now _ rws area room s h _ _
-    (connection-grown a.counts a.nodes.now a.conns.now _ a.classes.now a.classes.now rws area room s h a.bytes.now
-    c.in-Faulty.is c.take_connection-judged.ensures.connections_grown)
+    refused (connection_turn s) (λ q. refl) _ _ _ _ c.in_err-take_connection.was
+    (connection-grown a.counts _ _ a.classes.now s h a.bytes.now refl c.take_connection.ensures.connections_grown).says
+    (handed_on c.from_residual.result _ c.from_residual.ensures.1)
 
 pub slice_bounds-take_connection-end-2 : goal.slice_bounds-take_connection-end-2
-slice_bounds-take_connection-end-2 c =
-    let made : List ℕ = let a = c.args in c.ready.new.classes ++ drop a.counts.nodes a.classes.now in
-    let few : c.args.counts.nodes ≤ node_limit = few-nodes _ c.args.counts.nodes c.requires.0.nodes c.requires.0.table in
-    let inside : c.args.counts.nodes ≤ length c.args.classes.now = omega (arith, few, c.requires.1.classes) in
-    let still : c.args.counts.nodes ≤ length (made) = omega (arith, inside, c.classes-1.given.1) in
-    still
+slice_bounds-take_connection-end-2 c = omega (arith, held-classes c.requires.0 c.requires.1, c.classes-1.given.1)
 
 pub slice_bounds-take_connection-end-3 : goal.slice_bounds-take_connection-end-3
 slice_bounds-take_connection-end-3 c =
-    let made : List ℕ = let a = c.args in c.ready.new.classes ++ drop a.counts.nodes a.classes.now in
-    let few : c.args.counts.nodes ≤ node_limit = few-nodes _ c.args.counts.nodes c.requires.0.nodes c.requires.0.table in
-    let inside : c.args.counts.nodes ≤ length c.args.classes.now = omega (arith, few, c.requires.1.classes) in
-    let still : c.args.counts.nodes ≤ length (made) = omega (arith, inside, c.classes-1.given.1) in
-    sym (length-take-le _ _ (still))
+    sym (length-take-le _ _ (omega (arith, held-classes c.requires.0 c.requires.1, c.classes-1.given.1)))
 
-pub take_connection-judged-requires : goal.take_connection-judged-requires
-take_connection-judged-requires c =
-    let whole : NodesWhole (take (c.args.counts.nodes * node_words) c.args.nodes.now) = front-whole _ c.args.counts.nodes c.requires.0.nodes c.requires.0.table in
-    let made : List ℕ = let a = c.args in c.ready.new.classes ++ drop a.counts.nodes a.classes.now in
-    let few : c.args.counts.nodes ≤ node_limit = few-nodes _ c.args.counts.nodes c.requires.0.nodes c.requires.0.table in
-    let inside : c.args.counts.nodes ≤ length c.args.classes.now = omega (arith, few, c.requires.1.classes) in
-    let ready-are : let a = c.args in
-    take a.counts.nodes (made) ≡ classes_for a.counts.connections (take a.counts.nodes a.classes.now) = take_at _ _ _ (c.classes-1.given.0 ∙ length-take-le _ _ (inside)) ∙ c.ready.ensures in
-    let sofar : let a = c.args in
-    Sofar (take (a.counts.nodes * node_words) a.nodes.now) a.conns.now (take a.counts.nodes (made)) a.counts.connections = let a = c.args in
-    subst (λ (l : List ℕ). Sofar (take (a.counts.nodes * node_words) a.nodes.now) a.conns.now l a.counts.connections) (sym (ready-are))
-    (front-sofar a.nodes.now a.counts.nodes c.requires.0.nodes c.requires.0.table a.conns.now a.counts.connections c.requires.0.conns c.requires.0.joins
-    (take a.counts.nodes a.classes.now) (length-take-le _ _ (inside)) c.requires.0.tops) in record {
+pub take_connection-requires : goal.take_connection-requires
+take_connection-requires c =
+    let ready-are = take_at _ _ _ (c.classes-1.given.0 ∙ length-take-le _ _ (held-classes c.requires.0 c.requires.1)) ∙ c.ready.ensures in
+    let whole = held-whole c.requires.0 c.requires.1 in
+    let sofar = held-sofar c.requires.0 c.requires.1 ready-are in record {
       nodes_whole = (whole, sofar);
-      connection_words_in_bounds = omega (arith, sofar-few (whole) (sofar), c.requires.1.conns);
+      connection_words_in_bounds = omega (arith, sofar-few whole sofar, c.requires.1.conns);
     }
 
-pub overflow_add-result : goal.overflow_add-result
-overflow_add-result c =
-    let whole : NodesWhole (take (c.args.counts.nodes * node_words) c.args.nodes.now) = front-whole _ c.args.counts.nodes c.requires.0.nodes c.requires.0.table in
-    let made : List ℕ = let a = c.args in c.ready.new.classes ++ drop a.counts.nodes a.classes.now in
-    let few : c.args.counts.nodes ≤ node_limit = few-nodes _ c.args.counts.nodes c.requires.0.nodes c.requires.0.table in
-    let inside : c.args.counts.nodes ≤ length c.args.classes.now = omega (arith, few, c.requires.1.classes) in
-    let ready-are : let a = c.args in
-    take a.counts.nodes (made) ≡ classes_for a.counts.connections (take a.counts.nodes a.classes.now) = take_at _ _ _ (c.classes-1.given.0 ∙ length-take-le _ _ (inside)) ∙ c.ready.ensures in
-    let sofar : let a = c.args in
-    Sofar (take (a.counts.nodes * node_words) a.nodes.now) a.conns.now (take a.counts.nodes (made)) a.counts.connections = let a = c.args in
-    subst (λ (l : List ℕ). Sofar (take (a.counts.nodes * node_words) a.nodes.now) a.conns.now l a.counts.connections) (sym (ready-are))
-    (front-sofar a.nodes.now a.counts.nodes c.requires.0.nodes c.requires.0.table a.conns.now a.counts.connections c.requires.0.conns c.requires.0.joins
-    (take a.counts.nodes a.classes.now) (length-take-le _ _ (inside)) c.requires.0.tops) in
-    omega (arith, sofar-few (whole) (sofar))
+pub overflow_add-counts : goal.overflow_add-counts
+overflow_add-counts c =
+    omega (arith, sofar-few (held-whole c.requires.0 c.requires.1) (held-sofar c.requires.0 c.requires.1 c.ready.ensures))
 
-pub returns-in-Taken : goal.returns-in-Taken
-returns-in-Taken c rws area room s h =
-    let made : List ℕ = let a = c.args in c.ready.new.classes ++ drop a.counts.nodes a.classes.now in
-    let few : c.args.counts.nodes ≤ node_limit = few-nodes _ c.args.counts.nodes c.requires.0.nodes c.requires.0.table in
-    let inside : c.args.counts.nodes ≤ length c.args.classes.now = omega (arith, few, c.requires.1.classes) in
-    let still : c.args.counts.nodes ≤ length (made) = omega (arith, inside, c.classes-1.given.1) in
+pub returns : goal.returns
+returns c rws area room s h =
     let a = c.args in
     let front = take (a.counts.nodes * node_words) a.nodes.now in
-    let after = c.take_connection-judged.new.conns in
-    let tops = c.take_connection-judged.new.classes in
-    let on = subst (λ (r : Judgement). Onward r front after tops a.counts.connections) c.in-Taken.is c.take_connection-judged.ensures.onward in
-    connection-taken a.counts a.nodes.now a.conns.now after a.classes.now _ rws area room s h _
-    (connection-grown a.counts a.nodes.now a.conns.now after a.classes.now a.classes.now rws area room s h a.bytes.now
-    c.in-Taken.is c.take_connection-judged.ensures.connections_grown)
+    let after = c.take_connection.new.conns in
+    let tops = c.take_connection.new.classes in
+    let made : List ℕ = c.ready.new.classes ++ drop a.counts.nodes a.classes.now in
+    let still : a.counts.nodes ≤ length made = omega (arith, held-classes c.requires.0 c.requires.1, c.classes-1.given.1) in
+    let on = subst (λ (r : Judgement). Onward r front after tops a.counts.connections) c.in_ok-take_connection.was c.take_connection.ensures.onward in
+    connection-taken a.counts _ after _ s h _
+    (connection-grown a.counts _ after a.classes.now s h a.bytes.now c.in_ok-take_connection.was c.take_connection.ensures.connections_grown)
     (subst (λ (l : List ℕ). Sofar front after l (a.counts.connections + 1))
-    (sym (take_at tops (drop a.counts.nodes (made)) a.counts.nodes (c.classes-2-1.given.0 ∙ length-take-le _ _ (still)))) on)
+    (sym (take_at tops (drop a.counts.nodes made) a.counts.nodes (c.classes-2-1.given.0 ∙ length-take-le _ _ still))) on)

@@ -1,47 +1,42 @@
 -- `frames::steps::respond_to` meets its contract: the counted entries are tables of their own, and the answer over them is printed.
 use native.Mathlib.Omega.{arith}
-use mathlib.Core.List.{[]}
-use mathlib.Core.Path.{sym, ap, ◌∙◌}
-use lib.ListN.{length}
-use lib.Seq.{length-take-le}
-use Rattle.model.specs.Query.{Tables}
-use Rattle.laws.specs.Area.{splice}
-use Rattle.entries.proofs.Nodes.{nodes}
 use Rattle.entries.proofs.Connections.{connections}
 use Rattle.frames.proofs.Front.{few-nodes, front-whole, front-supported}
-use Rattle.frames.proofs.Query.{replied}
+use Rattle.frames.proofs.Query.{replied, query-right}
 use Rattle.frames.proofs.steps.respond_to.Goals as goal
 
 pub overflow_mul-n : goal.overflow_mul-n
 overflow_mul-n c =
-    omega (arith, few-nodes c.args.nodes.now _ _ c.requires.counted.0.table)
+    omega (arith, few-nodes c.args.store.now.nodes _ _ c.requires.stands.nodes)
 
 pub overflow_mul-c : goal.overflow_mul-c
 overflow_mul-c c =
-    omega (arith, (connections c.requires.counted.0.nodes c.args.conns.now _ _ c.requires.counted.0.joins).room, c.requires.counted.1)
+    omega (arith, (connections c.requires.state.tables.nodes c.args.store.now.conns _ _ c.requires.stands.conns).room)
 
-pub slice_bounds-respond-end : goal.slice_bounds-respond-end
-slice_bounds-respond-end c =
-    sym (length-take-le _ _ (nodes c.args.nodes.now _ _ c.requires.counted.0.table).stand.room)
+pub shared_ref_as_front-respond : goal.shared_ref_as_front-respond
+shared_ref_as_front-respond c =
+    omega (arith, few-nodes c.args.store.now.nodes _ _ c.requires.stands.nodes)
 
-pub slice_bounds-respond-end-2 : goal.slice_bounds-respond-end-2
-slice_bounds-respond-end-2 c =
-    sym (length-take-le _ _ (connections c.requires.counted.0.nodes c.args.conns.now _ _ c.requires.counted.0.joins).room)
+pub shared_ref_as_front-respond-2 : goal.shared_ref_as_front-respond-2
+shared_ref_as_front-respond-2 c =
+    omega (arith, (connections c.requires.state.tables.nodes c.args.store.now.conns _ _ c.requires.stands.conns).room)
 
 pub respond-answer-requires : goal.respond-answer-requires
 respond-answer-requires c =
-    (front-whole c.args.nodes.now _ _ c.requires.counted.0.table, front-supported c.args.nodes.now _ _ c.requires.counted.0.table c.args.conns.now _ _ c.requires.counted.0.joins)
+    let r = c.requires.stands in
+    (front-whole c.args.store.now.nodes _ _ r.nodes, front-supported c.args.store.now.nodes _ _ r.nodes c.args.store.now.conns _ _ r.conns)
+
+pub put_answer-printed-requires : goal.put_answer-printed-requires
+put_answer-printed-requires c =
+    let r = c.requires in (
+      (replied c.args.counts c.args.store.now.nodes c.args.store.now.conns r.state.tables r.stands.nodes r.stands.conns (omega arith) c.respond-answer.ensures).prints,
+      omega arith,
+      omega arith,
+    )
 
 pub returns : goal.returns
-returns c t p q =
-    let x = replied c.args.counts c.args.nodes.now c.args.conns.now t p q c.requires.area_len.0 c.respond-answer.ensures in
-    let e = x.text c.args.line in
-    (c.put_answer.ensures.value ∙ ap length e, c.put_answer.ensures.room_after ∙ ap (splice c.args.room.now 0) e, x.lent)
-
-pub put_answer-requires : goal.put_answer-requires
-put_answer-requires c =
-    let some-tables : Tables = record { nodes = c.requires.counted.0.nodes; rules = []; conns = c.requires.counted.0.conns } in (
-      (replied c.args.counts c.args.nodes.now c.args.conns.now (some-tables) c.requires.counted.0.table c.requires.counted.0.joins c.requires.area_len.0 c.respond-answer.ensures).prints,
-      omega (arith, c.area-1.given, c.requires.area_len.0),
-      c.requires.area_len.1,
-    )
+returns c s h =
+    let a = c.args in
+    query-right a.counts a.store.now s h a.line _ _
+    (replied a.counts a.store.now.nodes a.store.now.conns s.tables h.nodes h.conns (omega arith) c.respond-answer.ensures)
+    c.put_answer-printed.ensures.value c.put_answer-printed.ensures.room_after
