@@ -239,11 +239,11 @@ counted-some ws zero c h = go c.terms c.was c.row
     go (tree o m k s) e r = absurd (omega (arith, r.counted))
 counted-some ws (suc n) c h = omega arith
 
--- a count that was asked for, and one that was not there
-pub ok-some : (o : Option ℕ) (r : Refusal) (n : ℕ) → ok_or o r ≡ Ok n → o ≡ Some n
+-- what was asked for, and what was not there
+pub ok-some : {A : Type 0} (o : Option A) (r : Refusal) (n : A) → ok_or o r ≡ Ok n → o ≡ Some n
 ok-some (Some m) r n e = cc
 ok-some None r n e = let z : ◌≡◌ {A = ℕ} 0 1 = cc in absurd (omega arith)
 
-pub err-none : (o : Option ℕ) (r q : Refusal) → ok_or o r ≡ Err q → (o ≡ None) × (r ≡ q)
+pub err-none : {A : Type 0} (o : Option A) (r q : Refusal) → ok_or o r ≡ Err q → (o ≡ None) × (r ≡ q)
 err-none (Some m) r q e = let z : ◌≡◌ {A = ℕ} 0 1 = cc in absurd (omega arith)
 err-none None r q e = (refl, cc)

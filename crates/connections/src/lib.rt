@@ -1,5 +1,7 @@
-// The connection table: its entries read, and judged one by one. A connection is five words: current, next, kind, rule, forward.
+// The connection table: its entries read, and judged one by one. A connection is five words: current, next, kind, rule, forward,
+// which stay in their table as a node's do (crate nodes).
 // While connections are judged, a table of classes has a word for each node: the node at the top of its class.
+// Numbers are narrowed by `as` where a limit is proved: a TryFrom would be unwrapped each time.
 #![tactic(auto)]
 
 ghost use Rattle.std.specs.Prelude.{◌≡◌, ◌+◌, ◌*◌, ◌/◌, ◌<◌, ◌≤◌, length, get_or};
@@ -7,7 +9,7 @@ ghost use Rattle.model.specs.Limits.{node_limit};
 ghost use Rattle.model.specs.Judged.{judgement_of};
 ghost use Rattle.model.specs.Connect.{pairs_joined, add_connection};
 ghost use Rattle.model.specs.Tables.{connection_entry, connection_table, node_words, connection_words};
-ghost use Rattle.entries.specs.Nodes.{NodesWhole, NodesStand, nodes_of, count_in, children_in};
+ghost use Rattle.entries.specs.Nodes.{NodesStand, nodes_of, count_in, children_in};
 ghost use Rattle.laws.specs.Present.{present};
 ghost use Rattle.entries.specs.Connections.{direction_in, connection_in, oldest};
 ghost use Rattle.paths.specs.Hangs.{Forest};
@@ -17,7 +19,7 @@ use model::{
     BY_RULE_AT, CONNECTION_WORDS, Connection, Direction, FORWARD_AT, Judgement, Justification,
     NEXT_AT, NODE_LIMIT, NODE_WORDS, NodeNo, Refusal, RuleNo, WHY_AT, word,
 };
-use nodes::{child_of, count_of, operator_of};
+use nodes::{Nodes, child_of, count_of, operator_of};
 
 // Which way a rule connection's last word says.
 fn direction_of(word: u16) -> Direction
@@ -86,7 +88,8 @@ fn joined(classes: &[u16], a: NodeNo, b: NodeNo) -> bool
     class_of(classes, a) == class_of(classes, b)
 }
 
-// Where there is no connection, each node is a class of its own.
+// Where there is no connection, each node is a class of its own. The nodes are counted, since of what is written behind an adapter of
+// `iter_mut`, as `enumerate`, a proof knows the length alone.
 pub fn part(classes: &mut [u16])
     requires { length classes.old ≤ node_limit }
     ensures { classes.new ≡ up_to (length classes.old) }
@@ -110,8 +113,8 @@ pub fn join(classes: &mut [u16], a: NodeNo, b: NodeNo)
 {
     let from = class_of(classes, a);
     let to = class_of(classes, b);
-    for i in 0..classes.len() {
-        classes[i] = rename(from, to, classes[i]);
+    for top in classes.iter_mut() {
+        *top = rename(from, to, *top);
     }
 }
 
@@ -144,9 +147,9 @@ fn supports(nodes: &[u16], classes: &[u16], a: NodeNo, b: NodeNo) -> bool
 }
 
 // Judges a connection behind those that the classes belong to: its ends, then a congruence's support. A node that has a parent is not its class's top.
-fn judge_connection(nodes: &[u16], classes: &[u16], c: Connection) -> Judgement
-    requires { NodesWhole nodes.now × (length classes.now ≡ length nodes.now / node_words) }
-    ensures { JudgedBy nodes.now classes.now c result }
+fn judge_connection(nodes: Nodes, classes: &[u16], c: Connection) -> Judgement
+    requires { length classes.now ≡ length nodes.words.now / node_words }
+    ensures { JudgedBy nodes.entry.words.now classes.now c result }
 {
     let a = c.current;
     let b = c.next;
@@ -166,7 +169,7 @@ fn judge_connection(nodes: &[u16], classes: &[u16], c: Connection) -> Judgement
     match c.why {
         Justification::Rule(_, _) => Ok(()),
         Justification::Congruence => {
-            if supports(nodes, classes, a, b) {
+            if supports(nodes.words, classes, a, b) {
                 Ok(())
             } else {
                 Err(Refusal::NoSupport)
@@ -176,10 +179,10 @@ fn judge_connection(nodes: &[u16], classes: &[u16], c: Connection) -> Judgement
 }
 
 // Judges the entry of an age, behind the older ones, whose classes are lent.
-pub fn judge_entry(nodes: &[u16], classes: &[u16], conns: &[u16], age: usize) -> Judgement
-    requires nodes_whole { NodesWhole nodes.now × Forest (oldest age conns.now) × (age ≤ node_limit) }
-    requires classes { Classes (oldest age conns.now) (length nodes.now / node_words) classes.now }
-    ensures { result ≡ judgement_of (add_connection (nodes_of nodes.now) (oldest age conns.now) (connection_entry conns.now age)) }
+pub fn judge_entry(nodes: Nodes, classes: &[u16], conns: &[u16], age: usize) -> Judgement
+    requires forest { Forest (oldest age conns.now) × (age ≤ node_limit) }
+    requires classes { Classes (oldest age conns.now) (length nodes.words.now / node_words) classes.now }
+    ensures { result ≡ judgement_of (add_connection (nodes_of nodes.entry.words.now) (oldest age conns.now) (connection_entry conns.now age)) }
 {
     if !entry_whole(conns, age) {
         return Err(Refusal::NoEntry);
@@ -188,9 +191,9 @@ pub fn judge_entry(nodes: &[u16], classes: &[u16], conns: &[u16], age: usize) ->
 }
 
 // Judges a whole table, entry by entry in the order of age, with room for the classes of as many nodes as there are.
-fn judge_ages(nodes: &[u16], conns: &[u16], classes: &mut [u16]) -> Judgement
-    requires { NodesWhole nodes.now × (length classes.old ≡ length nodes.now / node_words) }
-    ensures { result ≡ judgement_of (connection_table (nodes_of nodes.now) conns.now) }
+fn judge_ages(nodes: Nodes, conns: &[u16], classes: &mut [u16]) -> Judgement
+    requires { length classes.old ≡ length nodes.words.now / node_words }
+    ensures { result ≡ judgement_of (connection_table (nodes_of nodes.entry.words.now) conns.now) }
 {
     part(classes);
     for age in 0..conns.len().div_ceil(CONNECTION_WORDS) {
@@ -202,11 +205,10 @@ fn judge_ages(nodes: &[u16], conns: &[u16], classes: &mut [u16]) -> Judgement
 }
 
 // Judges a whole table of connections over accepted nodes: the first bad entry decides.
-pub fn judge_connections(nodes: &[u16], conns: &[u16]) -> Judgement
-    requires { NodesWhole nodes.now }
-    ensures { result ≡ judgement_of (connection_table (nodes_of nodes.now) conns.now) }
+pub fn judge_connections(nodes: Nodes, conns: &[u16]) -> Judgement
+    ensures { result ≡ judgement_of (connection_table (nodes_of nodes.entry.words.now) conns.now) }
 {
-    let n = nodes.len() / NODE_WORDS;
+    let n = nodes.words.len() / NODE_WORDS;
     let mut classes = [0u16; NODE_LIMIT];
     judge_ages(nodes, conns, &mut classes[..n])
 }

@@ -12,7 +12,7 @@ use Rattle.model.specs.declared.NodeNo.{NodeNo}
 use Rattle.model.specs.Forest.{cur, root, joined, Parent, top, below, parent_of}
 use Rattle.paths.specs.Hangs.{next_of, depth, Forest}
 use Rattle.paths.specs.Meet.{top_of, meet_of}
-use Rattle.std.specs.Prelude.{None, Option, Some}
+use Rattle.std.specs.Prelude.{None, Some, is_some}
 use Rattle.paths.proofs.Laws.{no-parent, parent-case, joined-yes}
 use Rattle.paths.proofs.Walks.{climb-left, walk-self}
 use Rattle.paths.proofs.Joined.{joined-root}
@@ -134,8 +134,6 @@ module _ (rows : List Row) where
       go false q = let z : Some t ≡ None = e ∙ rw q in let y : ◌≡◌ {A = ℕ} 0 1 = cc in absurd (omega arith)
 
 -- joined nodes meet
-pub never-nowhere : (cs : List Connection) (l r : ℕ) → root cs l ≡ root cs r → None ≡ meet_of cs l r → ⊥
+pub joined-meet : (cs : List Connection) (l r : ℕ) → root cs l ≡ root cs r → is_some (meet_of cs l r) ≡ true
 unfolding meet_of
-never-nowhere cs l r j e =
-    let z : ◌≡◌ {A = Option NodeNo} None (Some (record { 0 = top_of cs l r })) = e ∙ rw (joined-yes cs l r j) in
-    let y : ◌≡◌ {A = ℕ} 0 1 = cc in omega arith
+joined-meet cs l r j = rw (joined-yes cs l r j) refl

@@ -2,5 +2,4 @@ pub mod Climbs
 pub mod Priced
 pub mod Sums
 pub mod Payable
-pub mod Single
 pub mod Only

@@ -10,6 +10,7 @@ ghost use Rattle.model.specs.Tables.{connection_words};
 ghost use Rattle.entries.specs.Nodes.{nodes_of, children_in};
 ghost use Rattle.forest.specs.Rows.{Climbs, connections_of};
 ghost use Rattle.costs.specs.Costs.{cost_cap, held, priced, nodes_in, weigh, Charged, Above, Upward, Joins, Alike, Payable, Between};
+ghost use Rattle.entries.proofs.Single.{single};
 
 use connections::connection_at;
 use forest::{Row, cost_of, meet, next_of, put_cost};
@@ -18,6 +19,14 @@ use nodes::{child_of, count_of};
 
 // The first sum past the limit: what is above is held here.
 const COST_CAP: u16 = (DISTANCE_LIMIT + 1) as u16;
+
+// Accepted tables, lent: of nodes, and of connections over them.
+#[derive(Clone, Copy)]
+pub struct Accepted<'a> {
+    pub nodes: &'a [u16],
+    pub conns: &'a [u16],
+    pub ghost supported: { Supported nodes.now (nodes_in nodes.now) conns.now (length conns.now / connection_words) } by { Prim.hlevel single },
+}
 
 // A sum, held at the cap.
 fn capped(a: u16, b: u16) -> u16
@@ -48,11 +57,10 @@ fn path_cost(rows: &[Row; NODE_LIMIT], left: NodeNo, right: NodeNo) -> u16
     requires { Joins rows.now left.0 right.0 }
     ensures { (cs : List Connection) (n : ℕ) → Climbs cs n rows.now → left.0 < n → right.0 < n → result ≡ held (weigh rows.now cs left.0 right.0) }
 {
-    match meet(rows, left, right) {
-        Some(top) => capped(climb_cost(rows, left, top), climb_cost(rows, right, top)),
-        // not reached: the two are joined
-        None => COST_CAP,
-    }
+    let top = meet(rows, left, right).unwrap();
+    let up = climb_cost(rows, left, top);
+    let down = climb_cost(rows, right, top);
+    capped(up, down)
 }
 
 // What a congruence between two nodes costs: its children's distances, pair by pair.
@@ -83,33 +91,30 @@ fn connection_cost(nodes: &[u16], rows: &[Row; NODE_LIMIT], c: Connection) -> u1
 }
 
 // Writes the cost of each connection into its current node's row, in the order of age.
-fn fill_costs(nodes: &[u16], conns: &[u16], rows: &mut [Row; NODE_LIMIT])
-    requires supported { Supported nodes.now (nodes_in nodes.now) conns.now (length conns.now / connection_words) }
-    requires charged { Charged (connections_of conns.now) (nodes_in nodes.now) rows.old }
-    ensures { rows.new ≡ priced (nodes_of nodes.now) conns.now (length conns.now / connection_words) rows.old }
+fn fill_costs(tables: Accepted, rows: &mut [Row; NODE_LIMIT])
+    requires { Charged (connections_of tables.conns.now) (nodes_in tables.nodes.now) rows.old }
+    ensures { rows.new ≡ priced (nodes_of tables.entry.nodes.now) tables.entry.conns.now (length tables.entry.conns.now / connection_words) rows.old }
 {
-    let count = conns.len() / CONNECTION_WORDS;
+    let count = tables.conns.len() / CONNECTION_WORDS;
     for age in 0..count {
-        let c = connection_at(conns, age);
-        let cost = connection_cost(nodes, rows, c);
+        let c = connection_at(tables.conns, age);
+        let cost = connection_cost(tables.nodes, rows, c);
         put_cost(rows, c.current, cost);
     }
 }
 
 // The distance between two joined nodes, held at the cap. The rows hold the costs then.
 pub fn distance(
-    nodes: &[u16],
-    conns: &[u16],
+    tables: Accepted,
     rows: &mut [Row; NODE_LIMIT],
     left: NodeNo,
     right: NodeNo,
 ) -> usize
-    requires supported { Supported nodes.now (nodes_in nodes.now) conns.now (length conns.now / connection_words) }
-    requires charged { Charged (connections_of conns.now) (nodes_in nodes.now) rows.old }
-    requires between { Between nodes.now conns.now left.0 right.0 }
-    ensures value { result ≡ held (dist (nodes_of nodes.now) (connections_of conns.now) left.0 right.0) }
-    ensures rows_after { rows.new ≡ priced (nodes_of nodes.now) conns.now (length conns.now / connection_words) rows.old }
+    requires charged { Charged (connections_of tables.conns.now) (nodes_in tables.nodes.now) rows.old }
+    requires between { Between tables.nodes.now tables.conns.now left.0 right.0 }
+    ensures value { result ≡ held (dist (nodes_of tables.entry.nodes.now) (connections_of tables.entry.conns.now) left.0 right.0) }
+    ensures rows_after { rows.new ≡ priced (nodes_of tables.entry.nodes.now) tables.entry.conns.now (length tables.entry.conns.now / connection_words) rows.old }
 {
-    fill_costs(nodes, conns, rows);
+    fill_costs(tables, rows);
     usize::from(path_cost(rows, left, right))
 }

@@ -1,5 +1,6 @@
 // A frame's bytes, behind the byte of its kind, turned into what it says: an entry written into a slot of its table, a pair of nodes,
 // or the words of an offered proof. A frame that says none of its kind leaves the slot as it was.
+// Numbers are narrowed by `as` where a limit is proved: a TryFrom would be unwrapped each time.
 #![tactic(auto)]
 
 mod sides;
@@ -113,7 +114,8 @@ pub fn put_rule(bytes: &[u8], slot: &mut [u16]) -> bool
 }
 
 // Whether a connection's last three fields are in their sets, by the kind: 0 congruence, 1 rule; rule and forward both 0 for
-// congruence.
+// congruence. (It judges bytes before a word is written, and `connections::entry_whole` judges words. One function for both would stand
+// in a crate under both that has `present`: laws, which has no code.)
 fn why_fits(kind: u8, rule: u16, forward: u8) -> bool
     ensures { result ≡ present (why_of kind rule forward) }
 {

@@ -8,7 +8,8 @@ ghost use Rattle.decode.specs.Sides.{part_of, side_found, side_of, items_of, Has
 use super::word_at;
 use model::{CHILD_LIMIT, ITEM_LIMIT, ITEM_WORDS, VARIABLE_LIMIT};
 
-// An item of a rule's frame: how many bytes it has, and its three words.
+// An item of a rule's frame: how many bytes it has, and its three words. No enum: the words go into the slot as they are, and an enum
+// would be made of them and turned back into them.
 #[derive(Clone, Copy)]
 pub struct Part {
     pub size: usize,

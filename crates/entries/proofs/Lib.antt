@@ -5,3 +5,4 @@ pub mod Judging
 pub mod Support
 pub mod Kept
 pub mod Grown
+pub mod Single

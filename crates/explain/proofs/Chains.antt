@@ -4,6 +4,7 @@ use Prim.Native.Nat.{ℕ, ◌≤◌, ◌<◌}
 use mathlib.Core.List.{List}
 use mathlib.Core.Logic.{◌⊎◌, ⊎_elim, inl, inr}
 use mathlib.Core.Path.{◌≡◌, sym, subst}
+use native.Mathlib.Omega.{arith}
 use lib.ListN.{length}
 use Rattle.std.specs.declared.ops.ControlFlow.{ControlFlow}
 use Rattle.std.specs.declared.ops.ControlFlow.TheVariants.{Continue, Break}
@@ -40,6 +41,12 @@ through-prints (farther r to n v before a) x = through-prints before (goes r to 
 pub stopped-prints : {piece line : List ℕ} {p : Place} {t : Store} (more : List (List ℕ)) → StoppedIn piece p t line → PrintsSome p t line piece 0 more 2
 stopped-prints more s = through-prints s.came (stops s.count s.behind s.is)
 
+-- a chain that a step made longer, within the piece
+pub record Longer (piece : List ℕ) (p : Place) (t : Store) (line : List ℕ) (at : ℕ) (r : Place) (v : Store) (new : List ℕ) (to : ℕ) : Type 0 where
+  pub farther : at < to
+  pub within : to ≤ length piece
+  pub chain : Through piece p t line 0 r v new to
+
 -- a step behind a chain
 module _ {piece line kept : List ℕ} {p q : Place} {t u : Store} {at : ℕ} (came : Through piece p t line 0 q u kept at) (ready : Ready p t)
     (long : length line ≡ kept_limit) (new : List ℕ) (v : Store) (x : ControlFlow Outcome (Place × ℕ)) (w : Step q u piece at x new v) where
@@ -53,16 +60,15 @@ module _ {piece line kept : List ℕ} {p q : Place} {t u : Store} {at : ℕ} (ca
     went : Went q u piece at r to new v
     went = subst Then e w
 
-    pub chain-within : at ≤ length piece → to ≤ length piece
-    chain-within h = within_on q u piece at new v behind.0 kept behind.1 r to went.count went.is h
-
-    pub chain-farther : at < length piece → at < to
-    chain-farther h = farther-on q u piece at new v behind.0 kept behind.1 r to went.count went.is h
-
-    pub chain-on : new ≡ kept_line kept q.held piece at → Through piece p t line 0 r v new to
-    chain-on same =
-        subst (λ (l : List ℕ). Through piece p t line 0 r v l to) (sym same)
-        (farther r to went.count v came (subst (λ (l : List ℕ). Advanced q u piece at (Continue (r, to, went.count)) l v) same went.is))
+    pub chain-on : new ≡ kept_line kept q.held piece at → at < length piece → Longer piece p t line at r v new to
+    chain-on same more =
+        record {
+          farther = farther-on q u piece at new v behind.0 kept behind.1 r to went.count went.is more;
+          within = within_on q u piece at new v behind.0 kept behind.1 r to went.count went.is (omega (arith, more));
+          chain =
+              subst (λ (l : List ℕ). Through piece p t line 0 r v l to) (sym same)
+              (farther r to went.count v came (subst (λ (l : List ℕ). Advanced q u piece at (Continue (r, to, went.count)) l v) same went.is));
+        }
 
   pub chain-end : (n : Outcome) → x ≡ Break n → new ≡ kept_line kept q.held piece at → (n ≡ Trouble) ⊎ ((n ≡ Stopped) × StoppedIn piece p t line)
   chain-end n e same = ⊎_elim (λ z. inl z) (λ z. inr (z.0, halted z.1)) (subst Then e w)

@@ -16,7 +16,8 @@ use std::ops::ControlFlow;
 // A byte of a frame takes two digits of its line.
 pub const FRAME_ROOM: usize = DIGIT_LIMIT / 2;
 
-// What the program holds beside the piece that it reads: the line that is open, the bytes that a line spells, and the store.
+// What the program holds beside the piece that it reads: the line that is open, the bytes that a line spells, and the store. Arrays: a rule
+// of the project (no heap, fixed memory).
 #[derive(Drop)]
 pub struct Memory {
     pub line: [u8; KEPT_LIMIT],
@@ -40,12 +41,12 @@ type Stepped = ControlFlow<Outcome, (Place, usize)>;
 // After a piece: where to go on, or the run is over.
 type Reading = ControlFlow<Outcome, Place>;
 
-impl Outcome {
-    // The digit that says it.
-    pub fn digit(self) -> u8
-        ensures { result ≡ digit_of self }
-    {
-        match self {
+// The digit that says what a run came to.
+impl From<Outcome> for u8 {
+    ghost from_gives = { λ o n. n ≡ digit_of o };
+
+    fn from(outcome: Outcome) -> u8 {
+        match outcome {
             Outcome::AllWell => 0,
             Outcome::SomeRefused => 1,
             Outcome::Stopped => 2,
@@ -95,7 +96,8 @@ fn show(rt: &HostRuntime, advance: Advance, room: &[u8]) -> Stepped
     }
 }
 
-// Reads on in a piece, and prints what that comes to.
+// Reads on in a piece, and prints what that comes to. That place and store belong together stays a clause here and in the two below, as
+// `turn` of crate frames has it: behind a refusal they do not.
 fn step(rt: &HostRuntime, place: Place, piece: &[u8], from: usize, memory: &mut Memory) -> Stepped
     requires ready { Ready place memory.old.store }
     requires from_in_bounds { from ≤ length piece.now }
@@ -181,6 +183,7 @@ fn first() -> Place
     ensures { result ≡ at_first }
 {
     let counts = Counts {
+        // no frame yet
         kind: 0,
         nodes: 0,
         rules: 0,

@@ -61,7 +61,7 @@ fn tell_status(rt: &HostRuntime, outcome: Outcome) {
         return;
     }
     if let Ok(mut file) = OpenOptions::new().append(true).open(rt, STATUS_FILE) {
-        let _ = file.write_all(&[b'0' + outcome.digit()]);
+        let _ = file.write_all(&[b'0' + u8::from(outcome)]);
     }
 }
 

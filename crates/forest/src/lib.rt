@@ -1,4 +1,5 @@
 // The connections climbed: a row for each node, all that a climb reads of it, and where two climbs meet.
+// Numbers are narrowed by `as` where a limit is proved: a TryFrom would be unwrapped each time.
 #![tactic(auto)]
 
 ghost use Rattle.std.specs.Prelude.{List, [], ◌++◌, ◌≡◌, ℕ, suc, ◌+◌, ◌<◌, ◌≤◌, length, get_or, set, drop};
@@ -16,7 +17,7 @@ use model::{CONNECTION_WORDS, Connection, NODE_LIMIT, NodeNo};
 
 // A node's row: where its parent connection leads, the age of that connection and 1, what it costs, and the node's depth and 1.
 // A node without a parent leads to itself, has age 0 and cost 0; depth 0 is a depth that is not known. Both stay counts with a 0
-// and no Option, which is no plainer: meet and settle compare and count them down, and the other climbs never come to a 0.
+// and no Option, which is no plainer: meet compares depths, settle counts them down, and of those that read an age two would unwrap it.
 #[derive(Clone, Copy)]
 pub struct Row {
     pub next: NodeNo,
@@ -104,7 +105,7 @@ fn put_parent(rows: &mut [Row; NODE_LIMIT], c: Connection, age: usize)
 
 // Makes each of n nodes one without a parent.
 fn put_tops(n: usize, rows: &mut [Row; NODE_LIMIT])
-    requires { (n ≤ node_limit) × (length rows.old ≡ node_limit) }
+    requires { n ≤ node_limit }
     ensures { Tied [] n rows.old rows.new × DepthsUnknown n rows.new }
 {
     for i in 0..n {
@@ -157,7 +158,7 @@ fn settle_all(n: usize, rows: &mut [Row; NODE_LIMIT])
 
 // Writes the rows of n nodes from accepted connections, with no cost.
 pub fn fill_rows(conns: &[u16], n: usize, rows: &mut [Row; NODE_LIMIT])
-    requires { Rooted n (connections_of conns.now) × (length rows.old ≡ node_limit) }
+    requires { Rooted n (connections_of conns.now) }
     ensures { rows.new ≡ rows_of (connections_of conns.now) n ++ drop n rows.old }
 {
     put_tops(n, rows);
@@ -168,7 +169,9 @@ pub fn fill_rows(conns: &[u16], n: usize, rows: &mut [Row; NODE_LIMIT])
     settle_all(n, rows);
 }
 
-// Both ends climb by parent connections until they meet: the deeper one first, the left one where both are as deep.
+// Both ends climb by parent connections until they meet: the deeper one first, the left one where both are as deep. A loop that breaks
+// with the meeting node, or with none, as document 01 asks: where they meet is known there only. Of which connections the rows are stays a
+// premise of each answer, here and above: an answer holds of every list that they stand for, and no such list is lent.
 pub fn meet(rows: &[Row; NODE_LIMIT], left: NodeNo, right: NodeNo) -> Option<NodeNo>
     requires { EndsIn rows.now left.0 right.0 }
     ensures { (cs : List Connection) (n : ℕ) → Climbs cs n rows.now → left.0 < n → right.0 < n → result ≡ meet_of cs left.0 right.0 }

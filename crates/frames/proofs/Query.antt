@@ -41,7 +41,7 @@ use Rattle.frames.specs.declared.Counts.{Counts}
 use Rattle.frames.specs.declared.Store.{Store}
 use Rattle.frames.specs.State.{Stands, text_room}
 use Rattle.frames.specs.Step.{Step, StepIs}
-use Rattle.frames.specs.Answer.{Printable, answered, reply_text}
+use Rattle.frames.specs.Answer.{Printable, answered, reply_text, Replies}
 use Rattle.frames.proofs.Front.{front-nodes, front-whole, front-connections, front-supported}
 use Rattle.frames.proofs.Close.{front_of}
 use Rattle.frames.proofs.Stores.{with_text}
@@ -175,23 +175,34 @@ module _ (k : Counts) (t : Store) (s : State) (h : Stands k t s) (line : ℕ) wh
   query-pair (some p) {l} {r} x u e w =
       subst₂ (λ (a b : ℕ). StepIs (queried s line (some (record { left = a; right = b }))) x u) (ap left_of e) (ap right_of e) w
 
-  -- a pair is answered
-  pub query-right : {l r : ℕ} {a : Answer} (area room : List ℕ) {n : ℕ} → Replied s.tables l r a area →
+  -- a pair is answered by the text of its reply, wherever the room began
+  by-text : (l r : ℕ) (old area room : List ℕ) {n : ℕ} → n ≡ length (reply_text s.tables line l r) →
+      room ≡ splice old 0 (reply_text s.tables line l r) →
+      StepIs (queried s line (some (record { left = l; right = r }))) (Ok (after_query k, n)) (with_text t area room)
+  by-text l r old area room e w = (
+    e,
+    front_of old _ room e w,
+    record {
+      kind = refl;
+      nodes = h.nodes;
+      rules = h.rules;
+      few = h.few;
+      conns = h.conns;
+      tops = h.tops;
+      words = refl;
+      fits = omega arith;
+      fresh = λ q. absurd (omega arith);
+    },
+  )
+
+  pub query-right : (o : Option NodePair) {l r : NodeNo} (old area room : List ℕ) {n : ℕ} → Some (l, r) ≡ pair_of o →
+      Replies k t.nodes t.conns line l.0 r.0 n area old room → StepIs (queried s line o) (Ok (after_query k, n)) (with_text t area room)
+  query-right o {l} {r} old area room e x =
+      let y = x s.tables h.nodes h.conns in query-pair o _ _ e (by-text l.0 r.0 old area room y.0 y.1)
+
+  -- the same of what an answer says
+  pub pair-answered : {l r : ℕ} {a : Answer} (area room : List ℕ) {n : ℕ} → Replied s.tables l r a area →
       n ≡ length (answered a line area) → room ≡ splice t.room 0 (answered a line area) →
       StepIs (queried s line (some (record { left = l; right = r }))) (Ok (after_query k, n)) (with_text t area room)
-  query-right area room x e w =
-      let z = e ∙ ap length (x.text line) in (
-        z,
-        front_of t.room _ room z (w ∙ ap (splice t.room 0) (x.text line)),
-        record {
-          kind = refl;
-          nodes = h.nodes;
-          rules = h.rules;
-          few = h.few;
-          conns = h.conns;
-          tops = h.tops;
-          words = refl;
-          fits = omega arith;
-          fresh = λ q. absurd (omega arith);
-        },
-      )
+  pair-answered {l} {r} area room x e w =
+      by-text l r t.room area room (e ∙ ap length (x.text line)) (w ∙ ap (splice t.room 0) (x.text line))

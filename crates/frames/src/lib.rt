@@ -46,7 +46,7 @@ const WORDS_KIND: u8 = 5;
 const END_KIND: u8 = 6;
 
 // All that a run holds: the tables, the classes of the nodes by their connections, the words of an open proof or of an answer, and
-// room for what a line prints.
+// room for what a line prints. Arrays, and counts beside them: a rule of the project (no heap, fixed memory).
 #[derive(Drop)]
 pub struct Store {
     pub nodes: [u16; NODE_ROOM],
@@ -127,7 +127,9 @@ fn line_step(counts: Counts, line: u64, digits: &[u8], bytes: &mut [u8], store: 
     frame_step(counts, line, kind, &bytes[1..end], store)
 }
 
-// One line in, what it prints out: a refusal is printed with its line, and ends the run.
+// One line in, what it prints out: a refusal is printed with its line, and ends the run. `bytes` may be longer than a frame: an array
+// would ask more of callers. Counts and store are no struct with `Running` as its invariant: that would be no plainer, since it would
+// have to be met behind a refusal too, where nothing is read again, and `finish` takes any counts.
 pub fn turn(
     counts: Counts,
     line: u64,

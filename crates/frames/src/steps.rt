@@ -15,6 +15,7 @@ use super::{
 use connections::part;
 use decode::{pair_of, put_words, words_in};
 use model::{Answer, CONNECTION_WORDS, NODE_WORDS, NodeNo, RULE_WORDS, Refusal, Written};
+use nodes::Nodes;
 use reports::{put_distance, put_refusal, put_verdict};
 use tables::{take_connection, take_node, take_rule};
 use text::put_lines;
@@ -45,8 +46,8 @@ fn ready(classes: &mut [u16], connections: usize)
     }
 }
 
-// 03: a connection. The classes are cut here, where they are a slice: no proof is made of a cut of a store's array that is lent along
-// with another one.
+// 03: a connection. The classes are cut here, where they are a slice: tried with the store whole, no proof was found of a cut of one of
+// its arrays that is lent beside another.
 pub fn connection_step(
     counts: Counts,
     bytes: &[u8],
@@ -61,7 +62,10 @@ pub fn connection_step(
     let age = counts.connections;
     let words = n * NODE_WORDS;
     ready(&mut classes[..n], age);
-    take_connection(&nodes[..words], conns, &mut classes[..n], age, bytes)?;
+    let front = Nodes {
+        words: &nodes[..words],
+    };
+    take_connection(front, conns, &mut classes[..n], age, bytes)?;
     let counts = Counts {
         kind: CONNECTION_KIND,
         connections: age + 1,
@@ -96,9 +100,7 @@ pub fn words_step(counts: Counts, bytes: &[u8], store: &mut Store) -> Step
     requires { Running counts store.old }
     ensures { WordsStep counts bytes.now store.old result store.new }
 {
-    let Some(words) = words_in(bytes) else {
-        return Err(Refusal::NoEntry);
-    };
+    let words = words_in(bytes).ok_or(Refusal::NoEntry)?;
     add_words(counts, words, bytes, store)
 }
 
@@ -181,8 +183,6 @@ pub fn query_step(counts: Counts, line: u64, bytes: &[u8], store: &mut Store) ->
     requires { Running counts store.old }
     ensures { QueryStep counts line bytes.now store.old result store.new }
 {
-    let Some((left, right)) = pair_of(bytes) else {
-        return Err(Refusal::NoEntry);
-    };
+    let (left, right) = pair_of(bytes).ok_or(Refusal::NoEntry)?;
     respond_to(counts, line, left, right, store)
 }

@@ -1,7 +1,7 @@
 -- A digit's value is below 16, and a pair of digits is a byte.
 use Prim.Native.Nat.{ℕ, ◌+◌, ◌-◌, ◌≤◌, ◌<◌}
 use mathlib.Core.Bool.{Bool, true, false, ◌&&◌, false≢true}
-use mathlib.Core.List.{List, [], ◌∷◌}
+use mathlib.Core.List.{List, [], ◌∷◌, ◌++◌}
 use mathlib.Core.Option.{Option, none, some}
 use mathlib.Core.Path.{◌≡◌, refl, sym, ap, subst, ◌∙◌}
 use native.Mathlib.Omega.{arith}
@@ -88,3 +88,22 @@ pair-at ds i h =
     let first : get_or ds (i + 0) 0 ≡ get_or ds i 0 = ap (λ (k : ℕ). get_or ds k 0) (omega arith) in
     first-pair (drop i ds) (omega (arith, length-drop i ds))
     ∙ rw (get_or-drop i ds 0 0, get_or-drop i ds 1 0, drop-drop 2 i ds, first) refl
+
+-- a pair taken off the digits from a place on, and what is left behind it
+pub record TakenOff (ds pair after : List ℕ) (i : ℕ) : Type 0 where
+  pub some : i < length ds
+  pub high : get_or pair 0 0 ≡ get_or ds i 0
+  pub low : get_or pair 1 0 ≡ get_or ds (i + 1) 0
+  pub left : after ≡ drop (i + 2) ds
+
+pub taken-off : (ds pair after : List ℕ) (i : ℕ) → drop i ds ≡ pair ++ after → length pair ≡ 2 → TakenOff ds pair after i
+taken-off ds [] after i e l = absurd (omega arith)
+taken-off ds (a ∷ []) after i e l = absurd (omega arith)
+taken-off ds (a ∷ b ∷ c ∷ pair) after i e l = absurd (omega arith)
+taken-off ds (a ∷ b ∷ []) after i e l =
+    record {
+      some = omega (arith, length-drop i ds, ap length e);
+      high = ap (λ (x : List ℕ). get_or x 0 0) (sym e) ∙ get_or-drop i ds 0 0 ∙ ap (λ (k : ℕ). get_or ds k 0) (omega arith);
+      low = ap (λ (x : List ℕ). get_or x 1 0) (sym e) ∙ get_or-drop i ds 1 0;
+      left = ap (drop 2) (sym e) ∙ drop-drop 2 i ds;
+    }

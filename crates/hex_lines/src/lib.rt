@@ -42,14 +42,15 @@ pub fn is_line(digits: &[u8]) -> bool
     are_digits(digits)
 }
 
-// Writes the bytes that a line spells before what else stands in the room.
+// Writes the bytes that a line spells before what else stands in the room. They are counted, since of what is written behind an
+// adapter of `iter_mut` a proof knows the length alone.
 pub fn put_bytes(digits: &[u8], bytes: &mut [u8])
     requires { (present (line_bytes digits.now) ≡ true) × (length digits.now ≤ 2 * length bytes.old) }
     ensures { bytes.new ≡ splice bytes.old 0 (decoded digits.now) }
 {
-    for i in 0..digits.len() / 2 {
-        let high = value(digits[2 * i]).unwrap();
-        let low = value(digits[2 * i + 1]).unwrap();
+    for (i, pair) in digits.chunks_exact(2).enumerate() {
+        let high = value(pair[0]).unwrap();
+        let low = value(pair[1]).unwrap();
         bytes[i] = high * 16 + low;
     }
 }

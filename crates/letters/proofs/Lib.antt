@@ -1,2 +1,3 @@
+pub mod Penned
 pub mod Digits
 pub mod Only

@@ -17,7 +17,8 @@ struct Rest {
     pending: usize,
 }
 
-// The row of `count` terms at `at` from its first mark on.
+// The row of `count` terms at `at` from its first mark on. (That it is there stays a clause: `one_mark` walks two
+// rows that it was not handed, each built from what proves the clause now; `marked` and the checker would hand such a type on once.)
 fn to_mark(words: &[u16], at: usize, count: usize) -> Rest
     requires { HasRow words.now at count }
     ensures { RestIs words.now at count result }

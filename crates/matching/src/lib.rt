@@ -10,6 +10,7 @@ ghost use Rattle.matching.specs.Match.{span_of, with_span, Valid, Rows, SomeRows
 
 use model::{Bindings, FLAT_WORDS, ITEM_WORDS, OpNo, Span, VARIABLE_LIMIT};
 use rule_table::Item;
+use terms::TwoTerms;
 
 // Behind an item that fits: where the terms go on, how many terms the item adds to those still to be matched, and what is bound.
 #[derive(Clone, Copy)]
@@ -37,7 +38,9 @@ fn with_span(b: Bindings, x: usize, s: Span) -> Bindings
     c
 }
 
-// A variable meets the term at `at`: it is bound to it, or what it is bound to is compared with it, marks aside.
+// A variable meets the term at `at`: it is bound to it, or what it is bound to is compared with it, marks aside. (That what is bound is
+// valid stays a clause, here and where an item and a side are matched: a type that holds it holds the words too, so that each answer
+// would have to say that its words are still the same.)
 fn bind(words: &[u16], x: usize, at: usize, b: Bindings) -> Option<ItemFit>
     requires x_lt_variable_limit { x < variable_limit }
     requires valid { Valid words.now b }
@@ -48,7 +51,12 @@ fn bind(words: &[u16], x: usize, at: usize, b: Bindings) -> Option<ItemFit>
     let s = span_of(b, x);
     let from = s.start;
     if from < s.end {
-        let same = terms::same_term(words, from, at);
+        let both = TwoTerms {
+            words,
+            a: from,
+            b: at,
+        };
+        let same = both.same_term();
         if !same {
             return None;
         }
@@ -94,7 +102,8 @@ fn item_step(side: &[u16], item: usize, words: &[u16], at: usize, b: Bindings) -
     }
 }
 
-// Matches `pending` patterns from the item on with as many terms from `at` on, over what is bound already: what is bound then.
+// Matches `pending` patterns from the item on with as many terms from `at` on, over what is bound already: what is bound then. (Document 01
+// asks for this recursion, its items and bindings by value: each of the six changes from call to call but the two tables.)
 fn match_side(
     side: &[u16],
     item: usize,
@@ -121,21 +130,19 @@ fn match_side(
     )
 }
 
-// Whether some substitution makes the left side the term at `a` and the right side the term at `b`. The left side is always
+// Whether some substitution makes the left side the first of two terms and the right side the second. The left side is always
 // matched first, so that a variable that stands only there is bound; a backward step exchanges the terms, not the sides.
-pub fn rule_fits(left: &[u16], right: &[u16], words: &[u16], a: usize, b: usize) -> bool
+pub fn rule_fits(left: &[u16], right: &[u16], both: TwoTerms) -> bool
     requires side { Side left.now }
     requires side_2 { Side right.now }
-    requires well { Well words.now a }
-    requires well_2 { Well words.now b }
-    ensures { FitIs left.now right.now words.now a b result }
+    ensures { FitIs left.now right.now both.entry.words.now both.entry.a both.entry.b result }
 {
     let nothing = Span { start: 0, end: 0 };
     let spans = [nothing; VARIABLE_LIMIT];
-    let l = match_side(left, 0, 1, words, a, Bindings { spans: spans });
+    let l = match_side(left, 0, 1, both.words, both.a, Bindings { spans: spans });
     let Some(bound) = l else {
         return false;
     };
-    let r = match_side(right, 0, 1, words, b, bound);
+    let r = match_side(right, 0, 1, both.words, both.b, bound);
     r.is_some()
 }

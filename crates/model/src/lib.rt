@@ -45,7 +45,8 @@ pub struct Span {
     pub end: usize,
 }
 
-// What each of the sixteen variables is bound to. A variable with an empty span is not bound.
+// What each of the sixteen variables is bound to. A variable with an empty span is not bound: document 01 asks for an array of sixteen
+// pairs, so no Option stands around them, and no term is empty.
 #[derive(Clone, Copy)]
 pub struct Bindings {
     pub spans: [Span; VARIABLE_LIMIT],

@@ -4,5 +4,5 @@ use mathlib.Core.Path.{◌≡◌, sym, ◌∙◌}
 use contract.Lifetimes.{Lfts}
 use Rattle.needs.proofs.words_needed.Reads as words-needed
 
-words-needed-only : (κs : Lfts 1) (a s s' : _) (r r' : ℕ) → words-needed.Post κs a r s → words-needed.Post κs a r' s' → r ≡ r'
+words-needed-only : (κs : Lfts 2) (a s s' : _) (r r' : ℕ) → words-needed.Post κs a r s → words-needed.Post κs a r' s' → r ≡ r'
 words-needed-only κs a s s' r r' p q = p ∙ sym q

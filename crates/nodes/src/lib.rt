@@ -6,12 +6,21 @@ ghost use Rattle.model.specs.Limits.{node_limit, child_limit};
 ghost use Rattle.model.specs.Judged.{judgement_of};
 ghost use Rattle.model.specs.Node.{all_below, add_node};
 ghost use Rattle.model.specs.Tables.{node_entry, node_table, node_words};
-ghost use Rattle.entries.specs.Nodes.{first_nodes, count_in, child_in, children_in};
+ghost use Rattle.entries.specs.Nodes.{first_nodes, count_in, child_in, children_in, NodesWhole};
+ghost use Rattle.entries.proofs.Single.{single};
 
 use model::{
     CHILD_LIMIT, CHILDREN_AT, COUNT_AT, Judgement, NODE_LIMIT, NODE_WORDS, NodeNo, OpNo, Refusal,
     word,
 };
+
+// An accepted table of nodes, lent. Its entries stay ten words each and are read where they stand: the C interface hands them in so, and
+// a table of structs would be a copy in memory of its own (no heap, fixed memory).
+#[derive(Clone, Copy)]
+pub struct Nodes<'a> {
+    pub words: &'a [u16],
+    pub ghost whole: { NodesWhole words.now } by { Prim.hlevel single },
+}
 
 // A node's operator.
 pub fn operator_of(nodes: &[u16], n: NodeNo) -> OpNo

@@ -14,8 +14,8 @@ pub const KEPT_LIMIT: usize = DIGIT_LIMIT + 1;
 
 const LINE_FEED: u8 = 10;
 
-// Where a piece is to be read on, how many bytes of the line are held, and whether a line feed has made it whole. The first two count
-// with a line feed and without, so an Option around them is no plainer than the flag.
+// Where a piece is to be read on, how many bytes of the line are held, and whether a line feed has made it whole. The first two are
+// needed with a line feed and without, so that an Option around them is no plainer than the flag.
 #[derive(Clone, Copy)]
 pub struct Gathered {
     pub next: usize,

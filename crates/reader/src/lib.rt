@@ -10,8 +10,6 @@ use frames::{Counts, Store, turn};
 use pieces::gather;
 use std::ops::ControlFlow;
 
-const LETTER_R: u8 = 114;
-
 // Between two lines, or within one: what counts of the tables, the line's number from 1, how many of its bytes are held, and whether
 // a query was refused or a proof rejected so far.
 #[derive(Clone, Copy)]
@@ -38,10 +36,7 @@ fn says_no(room: &[u8], printed: usize) -> bool
     requires { printed ≤ length room.now }
     ensures { result ≡ says_no printed room.now }
 {
-    if printed == 0 {
-        return false;
-    }
-    room[0] == LETTER_R
+    room[..printed].starts_with(b"r")
 }
 
 // The place within a line of which so many bytes are held.
@@ -81,7 +76,8 @@ fn take_line(
     ControlFlow::Continue((behind(place, counts, bad), next, count))
 }
 
-// Reads on in a piece, from a place in it: up to a line feed, and then the line is taken, or to the piece's end.
+// Reads on in a piece, from a place in it: up to a line feed, and then the line is taken, or to the piece's end. `line` and `bytes` are
+// slices, as `gather` and `turn` have them: arrays would ask more of callers.
 pub fn read_on(
     place: Place,
     piece: &[u8],

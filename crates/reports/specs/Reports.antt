@@ -18,3 +18,7 @@ two_fields a n b m = a ++ (digits n ++ (b ++ (digits m ++ bytes "\n")))
 -- "An answered query prints `distance D`"
 unfoldable pub distance_text : ℕ → List ℕ
 distance_text d = bytes "distance " ++ (digits d ++ bytes "\n")
+
+-- "`rejected N term K`", for any number
+abbrev pub rejection_text : ℕ → ℕ → List ℕ
+rejection_text n k = two_fields (bytes "rejected ") n (bytes " term ") k

@@ -4,36 +4,59 @@
 ghost use Rattle.std.specs.Prelude.{◌≡◌, ◌+◌, ◌≤◌, length};
 ghost use Rattle.model.specs.Run.{refusal_text, verdict_text};
 ghost use Rattle.laws.specs.Area.{splice};
-ghost use Rattle.reports.specs.Reports.{number_room, report_room, one_field, two_fields, distance_text};
+ghost use Rattle.reports.specs.Reports.{number_room, report_room, one_field, two_fields, distance_text, rejection_text};
 
-use letters::{put, put_number};
+use letters::Pen;
 use model::{Rejection, Verdict};
 
 // Room enough for each of them, whatever the numbers.
 pub const REPORT_ROOM: usize = 64;
 
 // A name, a number and a line feed.
+fn one(pen: &mut Pen, a: &[u8], n: u64)
+    requires { pen.old.at + (length a.now + number_room + 1) ≤ length pen.old.room.now }
+    ensures same_reference { pen.new.room.ghost_name ≡ pen.old.room.ghost_name }
+    ensures at_after { pen.new.at ≡ pen.old.at + length (one_field a.now n) }
+    ensures room_after { pen.new.room.now ≡ splice pen.old.room.now pen.old.at (one_field a.now n) }
+{
+    pen.put(a);
+    pen.put_number(n);
+    pen.put(b"\n");
+}
+
+// A name and a number, twice, and a line feed.
+fn two(pen: &mut Pen, a: &[u8], n: u64, b: &[u8], m: u64)
+    requires { pen.old.at + (length a.now + number_room + (length b.now + number_room) + 1) ≤ length pen.old.room.now }
+    ensures same_reference { pen.new.room.ghost_name ≡ pen.old.room.ghost_name }
+    ensures at_after { pen.new.at ≡ pen.old.at + length (two_fields a.now n b.now m) }
+    ensures room_after { pen.new.room.now ≡ splice pen.old.room.now pen.old.at (two_fields a.now n b.now m) }
+{
+    pen.put(a);
+    pen.put_number(n);
+    pen.put(b);
+    pen.put_number(m);
+    pen.put(b"\n");
+}
+
+// The same at the front of a room.
 fn put_one(room: &mut [u8], a: &[u8], n: u64) -> usize
     requires { length a.now + number_room + 1 ≤ length room.old }
     ensures value { result ≡ length (one_field a.now n) }
     ensures room_after { room.new ≡ splice room.old 0 (one_field a.now n) }
 {
-    let i = put(room, 0, a);
-    let j = put_number(room, i, n);
-    put(room, j, b"\n")
+    let mut pen = Pen { room, at: 0 };
+    one(&mut pen, a, n);
+    pen.at
 }
 
-// A name and a number, twice, and a line feed.
 fn put_two(room: &mut [u8], a: &[u8], n: u64, b: &[u8], m: u64) -> usize
     requires { length a.now + number_room + (length b.now + number_room) + 1 ≤ length room.old }
     ensures value { result ≡ length (two_fields a.now n b.now m) }
     ensures room_after { room.new ≡ splice room.old 0 (two_fields a.now n b.now m) }
 {
-    let i = put(room, 0, a);
-    let j = put_number(room, i, n);
-    let k = put(room, j, b);
-    let l = put_number(room, k, m);
-    put(room, l, b"\n")
+    let mut pen = Pen { room, at: 0 };
+    two(&mut pen, a, n, b, m);
+    pen.at
 }
 
 // `refused N line L`
@@ -42,7 +65,22 @@ pub fn put_refusal(room: &mut [u8], number: u16, line: u64) -> usize
     ensures value { result ≡ length (refusal_text number line) }
     ensures room_after { room.new ≡ splice room.old 0 (refusal_text number line) }
 {
-    put_two(room, b"refused ", number as u64, b" line ", line)
+    put_two(room, b"refused ", u64::from(number), b" line ", line)
+}
+
+// `rejected N term K`, for any number, as `put_refusal` is.
+pub fn put_rejection(room: &mut [u8], number: u16, place: usize) -> usize
+    requires { report_room ≤ length room.old }
+    ensures value { result ≡ length (rejection_text number place) }
+    ensures room_after { room.new ≡ splice room.old 0 (rejection_text number place) }
+{
+    put_two(
+        room,
+        b"rejected ",
+        u64::from(number),
+        b" term ",
+        place as u64,
+    )
 }
 
 // `accepted T` (terms) or `rejected N term K`
@@ -53,10 +91,7 @@ pub fn put_verdict(room: &mut [u8], verdict: Verdict) -> usize
 {
     match verdict {
         Ok(terms) => put_one(room, b"accepted ", terms as u64),
-        Err(Rejection { refusal, place }) => {
-            let number = u16::from(refusal);
-            put_two(room, b"rejected ", number as u64, b" term ", place as u64)
-        }
+        Err(Rejection { refusal, place }) => put_rejection(room, u16::from(refusal), place),
     }
 }
 

@@ -8,7 +8,7 @@ use Rattle.std.specs.Prelude.{Option, Some, None}
 use mathlib.Core.Path.{◌≡◌, refl, ap, sym, ◌∙◌}
 use native.Mathlib.Decide.{ℕ_discrete}
 use native.Mathlib.Omega.{arith}
-use borrow.Author.Tests.{eq-eqb, ne_eqb, eqb-true, eqb-false, leb-true}
+use borrow.Author.Tests.{eq-eqb, ne_eqb, eqb-true, leb-true}
 use lib.Dec.{leb, eqb}
 use lib.ListN.{length, get_or}
 use Rattle.model.specs.declared.Refusal.TheVariants.{TableFull, RuleUnfit}
@@ -168,25 +168,10 @@ module _ (ws : List ℕ) (x n : ℕ) where
   at-newest i p true e h q = let k : n ≡ i = cc in rw (← k) (omega arith, sym (eqb-true _ _ e))
   at-newest i p false e h q = let r = h q in (omega arith, r.1)
 
-  not-newest : (p : Option ℕ) (b : Bool) → eqb x (get_or ws (n * rule_words) 0) ≡ b
-      → (p ≡ None → (i : ℕ) → i < n → get_or ws (i * rule_words) 0 ≡ x → ⊥)
-      → listed_if b n p ≡ None → (i : ℕ) → i < suc n → get_or ws (i * rule_words) 0 ≡ x → ⊥
-  not-newest p true e h q i k d = let z : ◌≡◌ {A = ℕ} 0 1 = cc in omega arith
-  not-newest p false e h q i k d =
-      elim (ℕ_discrete i n) [
-        | yes j ↦ eqb-false _ _ e (sym (rw j at d))
-        | no j ↦ h q i (omega arith) d
-      ]
-
 pub place_at : (ws : List ℕ) (x n i : ℕ) → listed_below ws n x ≡ Some i → (i < n) × (get_or ws (i * rule_words) 0 ≡ x)
 unfolding listed_below
 place_at ws x zero i e = let z : ◌≡◌ {A = ℕ} 0 1 = cc in absurd (omega arith)
 place_at ws x (suc n) i e = at-newest ws x n i (listed_below ws n x) _ refl (place_at ws x n i) e
-
-pub place-nowhere : (ws : List ℕ) (x n : ℕ) → listed_below ws n x ≡ None → (i : ℕ) → i < n → get_or ws (i * rule_words) 0 ≡ x → ⊥
-unfolding listed_below
-place-nowhere ws x zero e i h d = omega arith
-place-nowhere ws x (suc n) e i h d = not-newest ws x n (listed_below ws n x) _ refl (place-nowhere ws x n) e i h d
 
 -- so a number is listed where its entry is found, and the rule of that entry is the rule listed
 pub record Found (ws : List ℕ) (rs : List Rule) (x i : ℕ) : Type 0 where

@@ -6,8 +6,8 @@ use Rattle.std.specs.Prelude.{Option}
 use Rattle.model.specs.Judged.{Judgement}
 use Rattle.rule_table.specs.declared.Item.{Item}
 use Rattle.rule_table.proofs.find_rule.Reads as find-rule
-use Rattle.rule_table.proofs.left_side.Reads as left-side
-use Rattle.rule_table.proofs.right_side.Reads as right_side
+use Rattle.rule_table.proofs.Entry.left_side.Reads as left-side
+use Rattle.rule_table.proofs.Entry.right_side.Reads as right_side
 use Rattle.rule_table.proofs.slot_at.Reads as slot_at
 use Rattle.rule_table.proofs.judge_rule.Reads as judge-rule
 use Rattle.rule_table.proofs.judge_rules.Reads as judge-rules

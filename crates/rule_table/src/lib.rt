@@ -1,6 +1,6 @@
 // The rule table. An entry is its number, how many items its left and its right side have, and 64 slots of three words (kind,
 // variable or operator, count) for each side. Entries are judged one by one, looked up by their numbers, and hand out their sides.
-// A table's length says how many entries it has.
+// A table's length says how many entries it has; its words stay as the C interface hands them in.
 #![tactic(auto)]
 
 ghost use Rattle.std.specs.Prelude.{◌≡◌, ◌+◌, ◌*◌, ◌≤◌, length};
@@ -8,6 +8,7 @@ ghost use Rattle.model.specs.Judged.{judgement_of};
 ghost use Rattle.model.specs.Tables.{item_words, side_words, rule_words, side_at, rule_table};
 ghost use Rattle.rule_table.specs.Slots.{is_side, item_at, slot_of, variable_in, Standing, known_from};
 ghost use Rattle.rule_table.specs.Entries.{AcceptedRules, HasRule, entry_of, with_entry, where_listed, side_slots, left_slots, right_slots};
+ghost use Rattle.rule_table.specs.Single.{single};
 
 use model::{
     CHILD_LIMIT, ITEM_LIMIT, ITEM_WORDS, Judgement, LEFT_AT, OpNo, RIGHT_AT, RULE_LIMIT,
@@ -26,38 +27,45 @@ pub fn find_rule(rules: &[u16], number: RuleNo) -> Option<usize>
     ensures { result ≡ where_listed rules.now number.0 }
 {
     for i in (0..rules.len() / RULE_WORDS).rev() {
-        if number.0 == rules[i * RULE_WORDS] {
+        if number == RuleNo(rules[i * RULE_WORDS]) {
             return Some(i);
         }
     }
     None
 }
 
-// The slots of a side of entry `i`, which begins so many words behind the entry's first.
-fn side_at(rules: &[u16], i: usize, from: usize) -> &[u16]
-    requires has_rule { HasRule rules.now i }
-    requires side_words_bound { from + side_words ≤ rule_words }
-    ensures { result.now ≡ side_slots rules.now i from }
-{
-    let at = i * RULE_WORDS + from;
-    let end = at + SIDE_WORDS;
-    &rules[at..end]
+// An entry of a table that holds a rule there. It hands out the slots of the rule's sides.
+#[derive(Clone, Copy)]
+pub struct Entry<'a> {
+    pub rules: &'a [u16],
+    pub index: usize,
+    pub ghost has_rule: { HasRule rules.now index } by { Prim.hlevel single },
 }
 
-// The slots of its left side. (Two names for one call: a caller that gave the place itself could give a wrong one.)
-pub fn left_side(rules: &[u16], i: usize) -> &[u16]
-    requires { HasRule rules.now i }
-    ensures { result.now ≡ left_slots rules.now i }
-{
-    side_at(rules, i, LEFT_AT)
-}
+impl<'a> Entry<'a> {
+    // The slots of a side, which begins so many words behind the entry's first.
+    fn side_at(self, from: usize) -> &'a [u16]
+        requires { from + side_words ≤ rule_words }
+        ensures { result.now ≡ side_slots self.entry.rules.now self.entry.index from }
+    {
+        let at = self.index * RULE_WORDS + from;
+        let end = at + SIDE_WORDS;
+        &self.rules[at..end]
+    }
 
-// And those of its right side.
-pub fn right_side(rules: &[u16], i: usize) -> &[u16]
-    requires { HasRule rules.now i }
-    ensures { result.now ≡ right_slots rules.now i }
-{
-    side_at(rules, i, RIGHT_AT)
+    // The slots of its left side. (Two names for one call: a caller that gave the place itself could give a wrong one.)
+    pub fn left_side(self) -> &'a [u16]
+        ensures { result.now ≡ left_slots self.entry.rules.now self.entry.index }
+    {
+        self.side_at(LEFT_AT)
+    }
+
+    // And those of its right side.
+    pub fn right_side(self) -> &'a [u16]
+        ensures { result.now ≡ right_slots self.entry.rules.now self.entry.index }
+    {
+        self.side_at(RIGHT_AT)
+    }
 }
 
 // The one place where an item's three words are read: what the slot at `at` holds, by its kind, or that a field is outside its set.
@@ -161,7 +169,8 @@ fn all_known(words: &[u16], at: usize, items: usize, on: [bool; VARIABLE_LIMIT])
     true
 }
 
-// Judges one entry behind the accepted ones of `rules`: 2, 3, 5, the lowest number first.
+// Judges one entry behind the accepted ones of `rules`: 2, 3, 5, the lowest number first. (That these are accepted stays a clause: each
+// of the two callers lends a longer front of a table at each turn, so that a type would be built, and proved, anew for each call.)
 pub fn judge_rule(rules: &[u16], entry: &[u16]) -> Judgement
     requires { AcceptedRules rules.now }
     ensures { result ≡ judgement_of (with_entry rules.now (entry_of entry.now)) }

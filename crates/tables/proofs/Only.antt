@@ -24,6 +24,6 @@ take-connection-only : (κs : Lfts 4) (a s s' : _) (r r' : Judgement) → take-c
     take-connection.Post κs a r' s' →
     (r ≡ r') × (s.1.0.now ≡ s'.1.0.now) × (s.1.1.0.now ≡ s'.1.1.0.now)
 take-connection-only κs a s s' r r' h p q =
-    let e : r ≡ r' = (p.0 _ h.0.1.table).says ∙ sym (q.0 _ h.0.1.table).says in
+    let e : r ≡ r' = (p.0 _ h.0.table).says ∙ sym (q.0 _ h.0.table).says in
     let f = p.1.0 ∙ sym q.1.0 in
     (e, f, p.1.1.0 ∙ ap₂ (λ (j : Judgement) (l : List ℕ). classes_after j l a.1.1.1.0 a.1.1.0.now) e f ∙ sym q.1.1.0)

@@ -9,7 +9,6 @@ ghost use Rattle.model.specs.Tables.{node_words, rule_words, connection_words};
 ghost use Rattle.laws.specs.Area.{splice, part};
 ghost use Rattle.layouts.specs.Words.{words_of_node, words_of_rule, words_of_connection};
 ghost use Rattle.rule_table.specs.Entries.{AcceptedRules, entry_of, with_entry};
-ghost use Rattle.entries.specs.Nodes.{NodesWhole};
 ghost use Rattle.connections.specs.Classes.{Sofar};
 ghost use Rattle.decode.specs.Slot.{slot_by};
 ghost use Rattle.tables.specs.Grown.{NodesHeld, NodesGrown, RulesHeld, RulesGrown, ConnectionsGrown, Onward, classes_after};
@@ -17,7 +16,7 @@ ghost use Rattle.tables.specs.Grown.{NodesHeld, NodesGrown, RulesHeld, RulesGrow
 use connections::{connection_at, join, judge_entry};
 use decode::{put_connection, put_node, put_rule};
 use model::{CONNECTION_WORDS, Judgement, NODE_WORDS, RULE_WORDS, Refusal};
-use nodes::judge_node;
+use nodes::{Nodes, judge_node};
 use rule_table::judge_rule;
 
 // A node behind the first `n`.
@@ -42,7 +41,7 @@ fn judge_behind(rules: &[u16], at: usize, end: usize) -> Judgement
     judge_rule(&rules[..at], &rules[at..end])
 }
 
-// A rule behind the first `n`.
+// A rule behind the first `n`. (Beside `take_node`, and no generic one: what is written and judged differs, and the rest is one cut.)
 pub fn take_rule(rules: &mut [u16], n: usize, bytes: &[u8]) -> Judgement
     requires { RulesHeld rules.old n × (n * rule_words + rule_words ≤ length rules.old) }
     ensures rules_grown { RulesGrown rules.old bytes.now n result rules.new }
@@ -58,18 +57,18 @@ pub fn take_rule(rules: &mut [u16], n: usize, bytes: &[u8]) -> Judgement
 
 // A connection behind the first `age`, over accepted nodes, with the classes of those before it.
 pub fn take_connection(
-    nodes: &[u16],
+    nodes: Nodes,
     conns: &mut [u16],
     classes: &mut [u16],
     age: usize,
     bytes: &[u8],
 ) -> Judgement
-    requires nodes_whole { NodesWhole nodes.now × Sofar nodes.now conns.old classes.old age }
+    requires sofar { Sofar nodes.words.now conns.old classes.old age }
     requires connection_words_in_bounds { age * connection_words + connection_words ≤ length conns.old }
-    ensures connections_grown { ConnectionsGrown nodes.now conns.old bytes.now age result conns.new }
+    ensures connections_grown { ConnectionsGrown nodes.entry.words.now conns.old bytes.now age result conns.new }
     ensures conns_after { conns.new ≡ splice conns.old (age * connection_words) (slot_by words_of_connection (part conns.old (age * connection_words) connection_words) (connection_frame bytes.now)) }
     ensures classes_after { classes.new ≡ classes_after result conns.new age classes.old }
-    ensures onward { Onward result nodes.now conns.new classes.new age }
+    ensures onward { Onward result nodes.entry.words.now conns.new classes.new age }
 {
     let at = age * CONNECTION_WORDS;
     let end = at + CONNECTION_WORDS;

@@ -8,3 +8,4 @@ pub mod SameWalk
 pub mod SameNodes
 pub mod Counted
 pub mod Only
+pub mod Single

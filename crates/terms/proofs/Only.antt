@@ -10,7 +10,9 @@ use Rattle.terms.proofs.Place.{end_same}
 use Rattle.terms.proofs.node_at.Reads as node-at
 use Rattle.terms.proofs.same_head.Reads as same_head
 use Rattle.terms.proofs.end_of.Reads as end-of
-use Rattle.terms.proofs.same_term.Reads as same-term
+use Rattle.terms.proofs.Single.{well-of}
+use Rattle.terms.proofs.TwoTerms.exchanged.Reads as exchanged
+use Rattle.terms.proofs.TwoTerms.same_term.Reads as same-term
 use Rattle.terms.proofs.same_nodes.Reads as same_nodes
 use Rattle.terms.proofs.whole_terms.Reads as whole-terms
 
@@ -30,8 +32,15 @@ one_answer false false P a b = refl
 one_answer true false P a b = absurd (b a)
 one_answer false true P a b = absurd (a b)
 
-same-term-only : (κs : Lfts 1) (a s s' : _) (r r' : Bool) → same-term.Pre κs a → same-term.Post κs a r s → same-term.Post κs a r' s' → r ≡ r'
-same-term-only κs a s s' r r' w p q = one_answer r r' _ (p _ _ _ _ w.0.is w.1.is) (q _ _ _ _ w.0.is w.1.is)
+exchanged-only : (κs : Lfts 1) (a s s' r r' : _) → exchanged.Post κs a r s → exchanged.Post κs a r' s'
+    → (r.words.now ≡ r'.words.now) × (r.a ≡ r'.a) × (r.b ≡ r'.b)
+exchanged-only κs a s s' r r' (p, q, t) (x, y, z) = (p ∙ sym x, q ∙ sym y, t ∙ sym z)
+
+same-term-only : (κs : Lfts 1) (a s s' : _) (r r' : Bool) → same-term.Post κs a r s → same-term.Post κs a r' s' → r ≡ r'
+same-term-only κs a s s' r r' p q =
+    let t = (well-of a.0.well_a).is in
+    let u = (well-of a.0.well_b).is in
+    one_answer r r' _ (p _ _ _ _ t u) (q _ _ _ _ t u)
 
 same-nodes-only : (κs : Lfts 1) (a s s' : _) (r r' : Bool) → same_nodes.Post κs a r s → same_nodes.Post κs a r' s' → r ≡ r'
 same-nodes-only κs a s s' r r' p q = p ∙ sym q

@@ -128,12 +128,6 @@ row-tree ws at n o m k s h =
       };
     }
 
--- the node that the code reads there
-pub tree-node : (ws : List ℕ) (at n o : ℕ) (m : Mark) (k s : Terms) → Tree ws at n o m k s
-    → node_of ws at ≡ record { op = record { 0 = o }; count = count k; mark = mark_word m; rule = record { 0 = rule_word m } }
-tree-node ws at n o m k s h = λ i.
-    record { op = record { 0 = h.op i }; count = h.kids i; mark = h.mark i; rule = record { 0 = h.rule i } }
-
 -- words that say a row have it at their start
 pub read-row : (ws : List ℕ) (f : Terms) → read ws ≡ some f → RowAt ws 0 (count f) f
 read-row ws f e =

@@ -10,7 +10,7 @@ ghost use Rattle.terms.specs.Whole.{whole_of};
 
 use model::{CHILD_LIMIT, FLAT_WORDS, OpNo, RuleNo};
 
-// A node's four words.
+// A node's four words, as they stand. No Option of a mark: `node_at` reads any words, whose mark may be none of 0, 1 and 2.
 #[derive(Clone, Copy)]
 pub struct TreeNode {
     pub op: OpNo,
@@ -40,7 +40,7 @@ fn node_ok(n: TreeNode) -> bool
         return false;
     }
     match n.mark {
-        0 => n.rule.0 == 0,
+        0 => n.rule == RuleNo(0),
         1 | 2 => true,
         _ => false,
     }
@@ -79,7 +79,8 @@ fn subterm_end(words: &[u16], at: usize) -> Option<usize>
     Some(pos)
 }
 
-// Where a term that is known to be there ends.
+// Where a term that is known to be there ends. (That it is there stays a clause here, in `one_mark`, `bind` and `later_fault`: a type of
+// one place would be built by each caller, from what proves the clause now; only `bind` and `later_fault` would hand one on, once each.)
 pub fn end_of(words: &[u16], at: usize) -> usize
     requires { Well words.now at }
     ensures { EndsAt words.now at result }
@@ -87,27 +88,48 @@ pub fn end_of(words: &[u16], at: usize) -> usize
     subterm_end(words, at).unwrap()
 }
 
-// Whether the terms at `a` and `b` are equal, their marks aside: both are walked at once.
-pub fn same_term(words: &[u16], a: usize, b: usize) -> bool
-    requires well { Well words.now a }
-    requires well_2 { Well words.now b }
-    ensures { SameIs words.now a b result }
-{
-    let mut i = a;
-    let mut j = b;
-    let mut pending: usize = 1;
-    // No range: how many nodes the terms have is known at their ends only.
-    while 0 < pending {
-        let x = node_at(words, i);
-        let y = node_at(words, j);
-        if !same_head(x, y.op, y.count) {
-            return false;
+// Two terms in the same words.
+#[derive(Clone, Copy)]
+pub struct TwoTerms<'a> {
+    pub words: &'a [u16],
+    pub a: usize,
+    pub b: usize,
+    pub ghost well_a: { ∥ Well words.now a ∥₁ },
+    pub ghost well_b: { ∥ Well words.now b ∥₁ },
+}
+
+impl<'a> TwoTerms<'a> {
+    // The second term, and the first behind it.
+    pub fn exchanged(self) -> TwoTerms<'a>
+        ensures { (result.words.now ≡ self.entry.words.now) × (result.a ≡ self.entry.b) × (result.b ≡ self.entry.a) }
+    {
+        TwoTerms {
+            words: self.words,
+            a: self.b,
+            b: self.a,
         }
-        pending = pending - 1 + usize::from(x.count);
-        i += FLAT_WORDS;
-        j += FLAT_WORDS;
     }
-    true
+
+    // Whether the two are equal, their marks aside: both are walked at once.
+    pub fn same_term(self) -> bool
+        ensures { SameIs self.entry.words.now self.entry.a self.entry.b result }
+    {
+        let mut i = self.a;
+        let mut j = self.b;
+        let mut pending: usize = 1;
+        // No range: how many nodes the terms have is known at their ends only.
+        while 0 < pending {
+            let x = node_at(self.words, i);
+            let y = node_at(self.words, j);
+            if !same_head(x, y.op, y.count) {
+                return false;
+            }
+            pending = pending - 1 + usize::from(x.count);
+            i += FLAT_WORDS;
+            j += FLAT_WORDS;
+        }
+        true
+    }
 }
 
 // Whether `count` nodes from `i` on agree with as many from `j` on, their marks aside.

@@ -10,13 +10,14 @@ ghost use Rattle.text.specs.Lines.{lines_of, SayTerms, SayTerm};
 ghost use Rattle.text.specs.Nodes.{mark_by, mark_head, bracket, head_of, pushed, opened, node_len, text_len, fit_of, Fine};
 ghost use Rattle.text.specs.Writing.{shut, space, less, Ready, emit, Holds};
 
-use letters::{number_len, put, put_number};
+use letters::{Pen, number_len, put};
 use model::{FLAT_WORDS, Printed, Refusal, RuleNo};
 use terms::{TreeNode, end_of, node_at, whole_terms};
 
-// How far a text is written, and where the stack of open brackets starts.
+// How far a text is written, and where the stack of open brackets starts: two places of one room, which stays beside them, lent from
+// call to call.
 #[derive(Clone, Copy)]
-struct Pen {
+struct Ends {
     at: usize,
     top: usize,
 }
@@ -30,7 +31,7 @@ fn mark_len(mark: u16, rule: RuleNo) -> usize
 {
     match mark {
         0 => 0,
-        _ => MARK_BYTES + number_len(rule.0 as u64),
+        _ => MARK_BYTES + number_len(u64::from(rule.0)),
     }
 }
 
@@ -38,7 +39,7 @@ fn mark_len(mark: u16, rule: RuleNo) -> usize
 fn node_len(n: TreeNode) -> usize
     ensures { result ≡ node_len n.op.0 n.count n.mark n.rule.0 }
 {
-    let bare = mark_len(n.mark, n.rule) + 1 + number_len(n.op.0 as u64);
+    let bare = mark_len(n.mark, n.rule) + 1 + number_len(u64::from(n.op.0));
     if n.count == 0 {
         return bare;
     }
@@ -63,7 +64,8 @@ fn text_len(words: &[u16], limit: usize) -> Option<usize>
     Some(used)
 }
 
-// Sets every byte from a place on.
+// Sets every byte from a place on. (`clear_from` of crate trees is the same of words. Each is one call of the library's `fill`; one
+// generic function would ask its callers for a proof that a clone of its type does not fail, and be no plainer.)
 fn fill_from(room: &mut [u8], at: usize, byte: u8)
     requires { at ≤ length room.old }
     ensures { room.new ≡ take at room.old ++ replicate (length room.old - at) byte }
@@ -72,56 +74,71 @@ fn fill_from(room: &mut [u8], at: usize, byte: u8)
 }
 
 // Puts a mark's name and its rule, to be followed by the marked node.
-fn put_marked(room: &mut [u8], at: usize, name: &[u8], rule: RuleNo) -> usize
-    requires { at + length (mark_by name.now rule.0) ≤ length room.old }
-    ensures value { result ≡ at + length (mark_by name.now rule.0) }
-    ensures room_after { room.new ≡ splice room.old at (mark_by name.now rule.0) }
+fn write_marked(pen: &mut Pen, name: &[u8], rule: RuleNo)
+    requires { pen.old.at + length (mark_by name.now rule.0) ≤ length pen.old.room.now }
+    ensures same_reference { pen.new.room.ghost_name ≡ pen.old.room.ghost_name }
+    ensures at_after { pen.new.at ≡ pen.old.at + length (mark_by name.now rule.0) }
+    ensures room_after { pen.new.room.now ≡ splice pen.old.room.now pen.old.at (mark_by name.now rule.0) }
 {
-    let open = put(room, at, b"(");
-    let named = put(room, open, name);
-    let by = put(room, named, b" r");
-    let numbered = put_number(room, by, rule.0 as u64);
-    put(room, numbered, b" ")
+    pen.put(b"(");
+    pen.put(name);
+    pen.put(b" r");
+    pen.put_number(u64::from(rule.0));
+    pen.put(b" ");
 }
 
 // Puts what stands before a node by its mark.
-fn put_mark(room: &mut [u8], at: usize, mark: u16, rule: RuleNo) -> usize
-    requires { at + length (mark_head mark rule.0) ≤ length room.old }
-    ensures value { result ≡ at + length (mark_head mark rule.0) }
-    ensures room_after { room.new ≡ splice room.old at (mark_head mark rule.0) }
+fn write_mark(pen: &mut Pen, mark: u16, rule: RuleNo)
+    requires { pen.old.at + length (mark_head mark rule.0) ≤ length pen.old.room.now }
+    ensures same_reference { pen.new.room.ghost_name ≡ pen.old.room.ghost_name }
+    ensures at_after { pen.new.at ≡ pen.old.at + length (mark_head mark rule.0) }
+    ensures room_after { pen.new.room.now ≡ splice pen.old.room.now pen.old.at (mark_head mark rule.0) }
 {
     match mark {
-        0 => at,
-        1 => put_marked(room, at, b"Rewrite=>", rule),
-        _ => put_marked(room, at, b"Rewrite<=", rule),
+        0 => {}
+        1 => write_marked(pen, b"Rewrite=>", rule),
+        _ => write_marked(pen, b"Rewrite<=", rule),
     }
 }
 
 // Puts the bracket of a node with children.
-fn put_bracket(room: &mut [u8], at: usize, count: u16) -> usize
-    requires { at + length (bracket count) ≤ length room.old }
-    ensures value { result ≡ at + length (bracket count) }
-    ensures room_after { room.new ≡ splice room.old at (bracket count) }
+fn write_bracket(pen: &mut Pen, count: u16)
+    requires { pen.old.at + length (bracket count) ≤ length pen.old.room.now }
+    ensures same_reference { pen.new.room.ghost_name ≡ pen.old.room.ghost_name }
+    ensures at_after { pen.new.at ≡ pen.old.at + length (bracket count) }
+    ensures room_after { pen.new.room.now ≡ splice pen.old.room.now pen.old.at (bracket count) }
 {
-    match count {
-        0 => at,
-        _ => put(room, at, b"("),
+    if count != 0 {
+        pen.put(b"(");
     }
 }
 
 // Puts what a node has before its children.
+fn write_head(pen: &mut Pen, n: TreeNode)
+    requires { pen.old.at + length (head_of n) ≤ length pen.old.room.now }
+    ensures same_reference { pen.new.room.ghost_name ≡ pen.old.room.ghost_name }
+    ensures at_after { pen.new.at ≡ pen.old.at + length (head_of n) }
+    ensures room_after { pen.new.room.now ≡ splice pen.old.room.now pen.old.at (head_of n) }
+{
+    write_mark(pen, n.mark, n.rule);
+    write_bracket(pen, n.count);
+    pen.put(b"o");
+    pen.put_number(u64::from(n.op.0));
+}
+
+// The same from a place of a room on.
 fn put_head(room: &mut [u8], at: usize, n: TreeNode) -> usize
     requires { at + length (head_of n) ≤ length room.old }
     ensures value { result ≡ at + length (head_of n) }
     ensures room_after { room.new ≡ splice room.old at (head_of n) }
 {
-    let marked = put_mark(room, at, n.mark, n.rule);
-    let open = put_bracket(room, marked, n.count);
-    let letter = put(room, open, b"o");
-    put_number(room, letter, n.op.0 as u64)
+    let mut pen = Pen { room, at };
+    write_head(&mut pen, n);
+    pen.at
 }
 
-// Pushes a bracket where one was opened, with the count of terms to come before it closes; the stack grows down.
+// Pushes a bracket where one was opened, with the count of terms to come before it closes; the stack grows down. (`opens` is a mark's word
+// or a count: each opens a bracket where it is not 0.)
 fn push(room: &mut [u8], top: usize, opens: u16, count: u16) -> usize
     requires { (length (pushed opens count) ≤ top) × (top ≤ length room.old) × (count ≤ child_limit) }
     ensures count_value { result + length (pushed opens count) ≡ top }
@@ -167,7 +184,7 @@ fn next_term(room: &mut [u8], at: usize, top: usize) -> usize
 }
 
 // Writes a node up to its children, and pushes its brackets.
-fn open_node(room: &mut [u8], at: usize, top: usize, n: TreeNode) -> Pen
+fn open_node(room: &mut [u8], at: usize, top: usize, n: TreeNode) -> Ends
     requires at_le_top { (at ≤ top) × (top ≤ length room.old) × Ready (drop top room.old) × (n.count ≤ child_limit) }
     requires room_in_bounds { at + length (space (drop top room.old)) + length (head_of n) + length (opened n.count n.mark (less (drop top room.old))) ≤ length room.old }
     ensures { Holds room.new result.at result.top (take at room.old ++ (space (drop top room.old) ++ head_of n)) (opened n.count n.mark (less (drop top room.old))) }
@@ -176,7 +193,7 @@ fn open_node(room: &mut [u8], at: usize, top: usize, n: TreeNode) -> Pen
     let outer = push(room, top, n.mark, 0);
     let inner = push(room, outer, n.count, n.count);
     let end = put_head(room, begun, n);
-    Pen {
+    Ends {
         at: end,
         top: inner,
     }
@@ -192,9 +209,9 @@ fn write_term(words: &[u16], room: &mut [u8])
     for i in 0..words.len() / FLAT_WORDS {
         let closed = close(room, at, top);
         let node = node_at(words, FLAT_WORDS * i);
-        let pen = open_node(room, at + closed, top + closed, node);
-        at = pen.at;
-        top = pen.top;
+        let ends = open_node(room, at + closed, top + closed, node);
+        at = ends.at;
+        top = ends.top;
     }
     fill_from(room, at, b')');
 }

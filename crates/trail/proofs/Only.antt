@@ -14,7 +14,7 @@ age-on-only κs a s s' r r' p q = p ∙ sym q
 lay-path-only : (κs : Lfts 2) (a s s' : _) (r r' : Route) → lay-path.Pre κs a → lay-path.Post κs a r s → lay-path.Post κs a r' s' →
     (r ≡ r') × (s.1.0.now ≡ s'.1.0.now)
 lay-path-only κs a s s' r r' w p q =
-    let k = w.1 in
+    let k = w in
     let x = p k.conns k.nodes k.climbs k.left_in k.right-in in
     let y = q k.conns k.nodes k.climbs k.left_in k.right-in in
     let turn = x.turn_is ∙ sym y.turn_is in (

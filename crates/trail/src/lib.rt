@@ -1,5 +1,7 @@
 // Paths laid on a trail: a stack of the ages of connections that are still to be walked, the first of a path highest.
 // A connection that costs nothing appends nothing and is never laid, so that a path takes no more of the trail than its distance.
+// An array with places beside it, and no vector: a rule of the project (no heap, fixed memory).
+// Numbers are narrowed by `as` where a limit is proved: a TryFrom would be unwrapped each time.
 #![tactic(auto)]
 
 ghost use Rattle.std.specs.Prelude.{◌≡◌, List, reverse, ℕ, ◌+◌, ◌-◌, ◌<◌, ◌≤◌, length, get_or};
@@ -39,7 +41,7 @@ fn legs_at(rows: &[Row; NODE_LIMIT], n: NodeNo) -> usize
 
 // Lays a node's parent connection on the trail, if it costs anything.
 fn lay(rows: &[Row; NODE_LIMIT], trail: &mut [u16; TERM_LIMIT], at: usize, n: NodeNo)
-    requires { (length trail.old ≡ term_limit) × (n.0 < node_limit) × (0 < age_in rows.now n.0) × (age_in rows.now n.0 ≤ node_limit) × (at + length (ages_at rows.now n.0) ≤ term_limit) }
+    requires { (n.0 < node_limit) × (0 < age_in rows.now n.0) × (age_in rows.now n.0 ≤ node_limit) × (at + length (ages_at rows.now n.0) ≤ term_limit) }
     ensures { trail.new ≡ splice trail.old at (ages_at rows.now n.0) }
 {
     if cost_of(rows, n) == 0 {
@@ -49,7 +51,8 @@ fn lay(rows: &[Row; NODE_LIMIT], trail: &mut [u16; TERM_LIMIT], at: usize, n: No
 }
 
 // How many connections the climb from a node to one above it lays. One function for this, lay_down and lay_up is no plainer: each step
-// writes nothing, above what was laid, or below it.
+// writes nothing, above what was laid, or below it. What a climb asks stays a clause in each: the room for it differs, all of the trail,
+// above `used` or below `top`, so that no one value could say it.
 fn count_legs(rows: &[Row; NODE_LIMIT], from: NodeNo, to: NodeNo) -> usize
     requires { Rising rows.now from.0 to.0 term_limit }
     ensures { (cs : List Connection) (n : ℕ) → Climbs cs n rows.now → from.0 < n → Above cs from.0 to.0 → result ≡ length (ages rows.now cs from.0 to.0) }
@@ -72,7 +75,7 @@ fn lay_down(
     from: NodeNo,
     to: NodeNo,
 ) -> usize
-    requires { (length trail.old ≡ term_limit) × (used ≤ term_limit) × Rising rows.now from.0 to.0 (term_limit - used) }
+    requires { (used ≤ term_limit) × Rising rows.now from.0 to.0 (term_limit - used) }
     ensures { (cs : List Connection) (n : ℕ) → Climbs cs n rows.now → from.0 < n → Above cs from.0 to.0 → (trail.new ≡ splice trail.old used (ages rows.now cs from.0 to.0)) × (result ≡ used + length (ages rows.now cs from.0 to.0)) }
 {
     let mut at = from;
@@ -94,7 +97,7 @@ fn lay_up(
     from: NodeNo,
     to: NodeNo,
 )
-    requires { (length trail.old ≡ term_limit) × (top ≤ term_limit) × Rising rows.now from.0 to.0 top }
+    requires { (top ≤ term_limit) × Rising rows.now from.0 to.0 top }
     ensures { (cs : List Connection) (n : ℕ) → Climbs cs n rows.now → from.0 < n → Above cs from.0 to.0 → trail.new ≡ splice trail.old (top - length (ages rows.now cs from.0 to.0)) (reverse (ages rows.now cs from.0 to.0)) }
 {
     let mut at = from;
@@ -115,20 +118,12 @@ pub fn lay_path(
     left: NodeNo,
     right: NodeNo,
 ) -> Route
-    requires { (length trail.old ≡ term_limit) × Layable rows.now used left.0 right.0 }
+    requires { Layable rows.now used left.0 right.0 }
     ensures { (cs : List Connection) (n : ℕ) → Climbs cs n rows.now → left.0 < n → right.0 < n → LaidOut rows.now cs trail.old used left.0 right.0 trail.new result.turn result.top }
 {
-    match meet(rows, left, right) {
-        Some(meeting) => {
-            let turn = lay_down(rows, trail, used, right, meeting);
-            let top = turn + count_legs(rows, left, meeting);
-            lay_up(rows, trail, top, left, meeting);
-            Route { turn, top }
-        }
-        // not reached: the two are joined
-        None => Route {
-            turn: used,
-            top: used,
-        },
-    }
+    let meeting = meet(rows, left, right).unwrap();
+    let turn = lay_down(rows, trail, used, right, meeting);
+    let top = turn + count_legs(rows, left, meeting);
+    lay_up(rows, trail, top, left, meeting);
+    Route { turn, top }
 }

@@ -5,7 +5,6 @@ use mathlib.Core.Path.{◌≡◌, refl, sym, ap, ap₂, ◌∙◌}
 use mathlib.Core.List.{List, ◌++◌, append_assoc}
 use lib.ListN.{length, length-append}
 use Rattle.model.specs.declared.Direction.{Direction}
-use Rattle.model.specs.declared.Direction.TheVariants.{Forward, Backward}
 use Rattle.model.specs.Limits.{flat_words}
 use Rattle.model.specs.Tables.{node_words}
 use Rattle.model.specs.Term.{marked, one, words, direction_word}
@@ -13,7 +12,7 @@ use Rattle.model.specs.Node.{row, term_of}
 use Rattle.model.specs.Flat.{size_of, marked_term}
 use Rattle.entries.specs.Nodes.{nodes_of, NodesWhole, children_in}
 use Rattle.laws.specs.Area.{splice, part}
-use Rattle.trees.specs.Area.{bare, root_in, direction_of}
+use Rattle.trees.specs.Area.{bare, root_in}
 use Rattle.laws.proofs.Area.{length-splice, length_part, part-before, splice-more, splice_front}
 use Rattle.trees.proofs.Bare.{length-bare}
 use Rattle.trees.proofs.Planted.{marked-spelled, term-spelled, term-long}
@@ -66,18 +65,17 @@ module _ (nodes : List ℕ) (good : NodesWhole nodes) (n : ℕ) (here : n < leng
   long-before : length before ≡ place
   long-before = length-bare (part a start place) ∙ length_part a start place (omega arith)
 
-  pub appended : (mark rule : ℕ) {a1 a2 a3 a4 : List ℕ} {behind : ℕ} → mark ≡ direction_word (direction_of mark) →
+  pub appended : (d : Direction) (rule : ℕ) {a1 a2 a3 a4 : List ℕ} {behind : ℕ} →
       a1 ≡ splice a end (bare (part a start (start + place - start))) →
       a2 ≡ splice a1 (end + place) (words (one (term_of (nodes_of nodes) n))) →
       behind ≡ end + place + flat_words * size_of (nodes_of nodes) n →
-      a3 ≡ splice a2 (end + place) (root_in nodes n mark rule) →
+      a3 ≡ splice a2 (end + place) (root_in nodes n (direction_word d) rule) →
       a4 ≡ splice a3 behind (bare (part a3 (end - post) (end - (end - post)))) →
-      a4 ≡ splice a end (before ++ (words (marked_term (nodes_of nodes) (marked (direction_of mark) rule) n) ++ bare (part a (end - post) post)))
-  appended mark rule {a1} {a2} {a3} {a4} {behind} m e1 e2 b e3 e4 =
-      let d = direction_of mark in
+      a4 ≡ splice a end (before ++ (words (marked_term (nodes_of nodes) (marked d rule) n) ++ bare (part a (end - post) post)))
+  appended d rule {a1} {a2} {a3} {a4} {behind} e1 e2 b e3 e4 =
       let root = root_in nodes n 0 0 in
       let kids = words (row (term_of (nodes_of nodes)) (children_in nodes n)) in
-      let new = root_in nodes n mark rule in
+      let new = root_in nodes n (direction_word d) rule in
       let tree = length-append root kids in
       let size = term-long nodes good n here in
       let whole : start + place - start ≡ place = omega arith in
@@ -92,14 +90,9 @@ module _ (nodes : List ℕ) (good : NodesWhole nodes) (n : ℕ) (here : n < leng
       let written = splice (splice (splice a end before) (end + length before) (root ++ kids)) (end + length before) new in
       let three : a3 ≡ written = e3 ∙ ap₂ (λ (l : List ℕ) (p : ℕ). splice l p new) two_is at in
       let marked-is : new ++ kids ≡ words (marked_term (nodes_of nodes) (marked d rule) n) =
-      ap (λ (w : ℕ). root_in nodes n w rule ++ kids) m ∙ sym (marked-spelled nodes good n here (marked d rule)) in
+      sym (marked-spelled nodes good n here (marked d rule)) in
       e4
       ∙ ap₂ (λ (l : List ℕ) (p : ℕ). splice l p (bare (part l (end - post) (end - (end - post))))) three far
       ∙ ap (λ (k : ℕ). splice written (end + length before + length (root ++ kids)) (bare (part written (end - post) k))) behind-part
       ∙ four_is a end before root kids new post (omega arith) refl (omega (arith, long-before, tree, size))
       ∙ ap (λ (l : List ℕ). splice a end (before ++ (l ++ bare (part a (end - post) post)))) marked-is
-
--- the word of a direction's mark is one that is asked for, and tells the direction
-pub word-direction : (d : Direction) {mark : ℕ} → mark ≡ direction_word d → (mark ≡ direction_word (direction_of mark)) × (direction_of mark ≡ d)
-word-direction Forward e = (rw e refl, rw e refl)
-word-direction Backward e = (rw e refl, rw e refl)

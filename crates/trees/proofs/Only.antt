@@ -1,7 +1,10 @@
 -- No second outcome fits: two results and two areas or tables that meet a public contract of this crate, for the same arguments, are equal.
 use Prim.Native.Nat.{ℕ}
-use mathlib.Core.Path.{◌≡◌, sym, ◌∙◌}
+use mathlib.Core.Path.{◌≡◌, sym, ap₂, ◌∙◌}
 use contract.Lifetimes.{Lfts}
+use Rattle.model.specs.declared.Direction.{Direction}
+use Rattle.model.specs.declared.RuleNo.{RuleNo}
+use Rattle.trees.specs.declared.Mark.{Mark}
 use Rattle.trees.proofs.held.Reads as held
 use Rattle.trees.proofs.amount.Reads as amount
 use Rattle.trees.proofs.size_of.Reads as size-of
@@ -42,8 +45,8 @@ append-only : (κs : Lfts 2) (a s s' : _) (r r' : ℕ) → append.Post κs a r s
     (r ≡ r') × (s.1.0.now ≡ s'.1.0.now)
 append-only κs a s s' r r' p q = (p.0 ∙ sym q.0, p.1 ∙ sym q.1)
 
-mark-for-only : (κs : Lfts 0) (a s s' : _) (r r' : ℕ) → mark-for.Post κs a r s → mark-for.Post κs a r' s' → r ≡ r'
-mark-for-only κs a s s' r r' p q = p ∙ sym q
+mark-for-only : (κs : Lfts 0) (a s s' : _) (r r' : Mark) → mark-for.Post κs a r s → mark-for.Post κs a r' s' → r ≡ r'
+mark-for-only κs a s s' r r' p q = ap₂ (λ (d : Direction) (n : RuleNo). record { direction = d; rule = n }) (p.1 ∙ sym q.1) (p.0 ∙ sym q.0)
 
 -- the area, its first argument
 clear-from-only : (κs : Lfts 1) (a s s' r r' : _) → clear-from.Post κs a r s → clear-from.Post κs a r' s' → s.0.now ≡ s'.0.now

@@ -1,11 +1,10 @@
 -- Words in an area: whole nodes of them, without their marks, and rows of terms between the same words.
-use Rattle.std.specs.Prelude.{ℕ, zero, suc, ◌*◌, ◌/◌, ◌≡◌, List, [], ◌∷◌, ◌++◌, get_or}
-use Rattle.model.specs.declared.Direction.{Direction}
-use Rattle.model.specs.declared.Direction.TheVariants.{Forward, Backward}
+use Rattle.std.specs.Prelude.{ℕ, ◌*◌, ◌/◌, ◌≡◌, List, [], ◌∷◌, ◌++◌, get_or, Option, Some, None}
 use Rattle.model.specs.Limits.{flat_words}
 use Rattle.model.specs.Tables.{node_words}
-use Rattle.model.specs.Term.{Terms, no_terms, tree, words}
+use Rattle.model.specs.Term.{Mark, unmarked, marked, Terms, no_terms, tree, words}
 use Rattle.entries.specs.Nodes.{count_in}
+use Rattle.trees.specs.declared.Mark.{Mark as Stamp}
 
 -- a number of words that is whole nodes
 abbrev pub WholeNodes : ℕ → Type 0
@@ -29,8 +28,7 @@ around pre post (tree o m k s) = pre ++ (words (tree o m k no_terms) ++ (post ++
 abbrev pub root_in : List ℕ → ℕ → ℕ → ℕ → List ℕ
 root_in nodes n mark rule = get_or nodes (n * node_words) 0 ∷ count_in nodes n ∷ mark ∷ rule ∷ []
 
--- "mark (0 none, 1 forward, 2 backward)": the direction of a mark's word
-abbrev pub direction_of : ℕ → Direction
-direction_of zero = Forward
-direction_of (suc zero) = Forward
-direction_of (suc (suc m)) = Backward
+-- a node's mark, as a term has it
+abbrev pub mark_of : Option Stamp → Mark
+mark_of None = unmarked
+mark_of (Some m) = marked m.direction m.rule.0

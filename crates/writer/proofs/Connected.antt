@@ -6,13 +6,12 @@ use mathlib.Core.Path.{◌≡◌, refl, sym, ap, ◌∙◌}
 use native.Mathlib.Omega.{arith}
 use lib.ListN.{length, length-append}
 use Rattle.model.specs.declared.Direction.{Direction}
-use Rattle.model.specs.declared.Direction.TheVariants.{Forward, Backward}
 use Rattle.model.specs.declared.Justification.TheVariants.{Rule as by_rule, Congruence}
 use Rattle.model.specs.declared.RuleNo.{RuleNo}
 use Rattle.model.specs.Limits.{flat_words}
 use Rattle.model.specs.Tables.{connection_words}
 use Rattle.model.specs.Node.{Node}
-use Rattle.model.specs.Term.{Mark, direction_word, words, size}
+use Rattle.model.specs.Term.{Mark, words, size}
 use Rattle.model.specs.Flat.{appended, mark_for, marked_term, size_of}
 use Rattle.terms.proofs.Rows.{length-words}
 use Rattle.entries.specs.Connections.{connection_in, Supported}
@@ -20,7 +19,7 @@ use Rattle.entries.proofs.Support.{current-here, next_here, twins}
 use Rattle.costs.specs.Costs.{nodes_in}
 use Rattle.flat.proofs.NodeTerms.{term-size}
 use Rattle.laws.specs.Area.{splice}
-use Rattle.trees.specs.Area.{around, direction_of}
+use Rattle.trees.specs.Area.{around}
 use Rattle.trees.specs.declared.Spot.{Spot}
 use Rattle.writer.specs.Appends.{start_of, leg_terms, twin_terms}
 use Rattle.writer.specs.Written.{pre_of, post_of, Stood, Wrote, Matched}
@@ -62,14 +61,6 @@ module _ {nodes conns : List ℕ} (k : Supported nodes (nodes_in nodes) conns (l
           joins = λ i q. sym (t.joins i (omega (arith, t.even)));
         };
       }
-
--- a mark's word says its direction
-pub same-direction : (d : Direction) → direction_of (direction_word d) ≡ d
-same-direction Forward = refl
-same-direction Backward = refl
-
-pub mark-word : {m : ℕ} (d : Direction) → m ≡ direction_word d → m ≡ direction_word (direction_of m)
-mark-word d e = e ∙ ap direction_word (sym (ap direction_of e ∙ same-direction d))
 
 module _ (ns : List Node) (b : ℕ) where
   around-marked : (p q : List ℕ) (m : Mark) → around p q (marked_term ns m b) ≡ p ++ (words (marked_term ns m b) ++ q)

@@ -4,6 +4,6 @@ use contract.Lifetimes.{Lfts}
 use Rattle.writer.proofs.write_proof.Reads as write-proof
 
 -- the area, its second argument
-write-proof-only : (κs : Lfts 2) (a s s' r r' : _) → write-proof.Post κs a r s → write-proof.Post κs a r' s' →
+write-proof-only : (κs : Lfts 3) (a s s' r r' : _) → write-proof.Post κs a r s → write-proof.Post κs a r' s' →
     s.1.0.now ≡ s'.1.0.now
 write-proof-only κs a s s' r r' p q = p ∙ sym q

@@ -4,21 +4,19 @@
 #![tactic(auto)]
 
 ghost use Rattle.std.specs.Prelude.{◌≡◌, ◌/◌, ◌<◌, ◌≤◌, length};
-ghost use Rattle.model.specs.Limits.{distance_limit, word_limit};
+ghost use Rattle.model.specs.Limits.{word_limit};
 ghost use Rattle.model.specs.Tables.{connection_words};
 ghost use Rattle.model.specs.Term.{words};
-ghost use Rattle.model.specs.Forest.{dist};
 ghost use Rattle.model.specs.Flat.{later, flat_proof};
 ghost use Rattle.entries.specs.Connections.{connection_in, oldest};
 ghost use Rattle.entries.specs.Nodes.{nodes_of};
 ghost use Rattle.forest.specs.Rows.{connections_of};
-ghost use Rattle.costs.specs.Costs.{Between};
 ghost use Rattle.writer.specs.Appends.{start_of, leg_terms, twin_terms, term_words};
 ghost use Rattle.writer.specs.Written.{Wrote, WriterAsks, Kept, Reached, Matched};
 
 use connections::connection_at;
 use model::{CONNECTION_WORDS, Connection, FLAT_WORDS, Justification, NodeNo, TERM_LIMIT};
-use needs::Lent;
+use needs::{JoinedPair, Lent};
 use nodes::{child_of, count_of};
 use trail::{age_on, lay_path};
 use trees::{Spot, append, mark_for, words_of, write_tree};
@@ -30,7 +28,8 @@ fn start_of(c: Connection, up: bool) -> NodeNo
     if up { c.current } else { c.next }
 }
 
-// Appends at a spot what a connection appends, walked up or down.
+// Appends at a spot what a connection appends, walked up or down. What the writers ask stays a clause: it is of the area and the trail,
+// which are written from call to call, and of other terms at each, so that a struct would be built anew with a proof at every call.
 #[cycle(write_congruence_write_hop_write_path)]
 fn write_hop(
     lent: Lent,
@@ -42,8 +41,8 @@ fn write_hop(
     up: bool,
 ) -> usize
     requires listed { age < length lent.conns.now / connection_words }
-    requires writer_asks { WriterAsks trail.old area.old at (term_words (nodes_of lent.nodes.now) (start_of (connection_in lent.conns.now age) up).0) (leg_terms (nodes_of lent.nodes.now) lent.conns.now age up) used }
-    ensures wrote { Wrote area.old at (term_words (nodes_of lent.entry.nodes.now) (start_of (connection_in lent.entry.conns.now age) up).0) (leg_terms (nodes_of lent.entry.nodes.now) lent.entry.conns.now age up) area.new result }
+    requires writer_asks { WriterAsks trail.old area.old at (term_words (nodes_of lent.nodes.words.now) (start_of (connection_in lent.conns.now age) up).0) (leg_terms (nodes_of lent.nodes.words.now) lent.conns.now age up) used }
+    ensures wrote { Wrote area.old at (term_words (nodes_of lent.entry.nodes.words.now) (start_of (connection_in lent.entry.conns.now age) up).0) (leg_terms (nodes_of lent.entry.nodes.words.now) lent.entry.conns.now age up) area.new result }
     ensures kept { Kept used trail.old trail.new }
 {
     let c = connection_at(lent.conns, age);
@@ -52,7 +51,7 @@ fn write_hop(
     match c.why {
         Justification::Rule(rule, d) => {
             let old = words_of(lent.sizes, a);
-            append(lent.nodes, area, at, old, b, mark_for(d, up), rule)
+            append(lent.nodes, area, at, old, b, mark_for(rule, d, up))
         }
         Justification::Congruence => { write_congruence(lent, trail, used, area, at, age, a, b) }
     }
@@ -70,18 +69,18 @@ fn write_congruence(
     a: NodeNo,
     b: NodeNo,
 ) -> usize
-    requires matched { Matched lent.nodes.now lent.conns.now age a.0 b.0 }
-    requires writer_asks { WriterAsks trail.old area.old spot (term_words (nodes_of lent.nodes.now) a.0) (twin_terms (nodes_of lent.nodes.now) lent.conns.now age a.0 b.0) used }
-    ensures wrote { Wrote area.old spot (term_words (nodes_of lent.entry.nodes.now) a.0) (twin_terms (nodes_of lent.entry.nodes.now) lent.entry.conns.now age a.0 b.0) area.new result }
+    requires matched { Matched lent.nodes.words.now lent.conns.now age a.0 b.0 }
+    requires writer_asks { WriterAsks trail.old area.old spot (term_words (nodes_of lent.nodes.words.now) a.0) (twin_terms (nodes_of lent.nodes.words.now) lent.conns.now age a.0 b.0) used }
+    ensures wrote { Wrote area.old spot (term_words (nodes_of lent.entry.nodes.words.now) a.0) (twin_terms (nodes_of lent.entry.nodes.words.now) lent.entry.conns.now age a.0 b.0) area.new result }
     ensures kept { Kept used trail.old trail.new }
 {
-    let n = count_of(lent.nodes, a);
+    let n = count_of(lent.nodes.words, a);
     let mut front = FLAT_WORDS;
     let mut back = words_of(lent.sizes, a) - FLAT_WORDS;
     let mut end = spot.end;
     for i in 0..n {
-        let x = child_of(lent.nodes, a, i);
-        let y = child_of(lent.nodes, b, i);
+        let x = child_of(lent.nodes.words, a, i);
+        let y = child_of(lent.nodes.words, b, i);
         back -= words_of(lent.sizes, x);
         let at = Spot {
             place: spot.place + front,
@@ -107,9 +106,9 @@ fn write_path(
     left: NodeNo,
     right: NodeNo,
 ) -> usize
-    requires reached { Reached lent.nodes.now lent.conns.now bound left.0 right.0 }
-    requires writer_asks { WriterAsks trail.old area.old spot (term_words (nodes_of lent.nodes.now) left.0) (later (nodes_of lent.nodes.now) (oldest bound lent.conns.now) left.0 right.0) used }
-    ensures wrote { Wrote area.old spot (term_words (nodes_of lent.entry.nodes.now) left.0) (later (nodes_of lent.entry.nodes.now) (oldest bound lent.entry.conns.now) left.0 right.0) area.new result }
+    requires reached { Reached lent.nodes.words.now lent.conns.now bound left.0 right.0 }
+    requires writer_asks { WriterAsks trail.old area.old spot (term_words (nodes_of lent.nodes.words.now) left.0) (later (nodes_of lent.nodes.words.now) (oldest bound lent.conns.now) left.0 right.0) used }
+    ensures wrote { Wrote area.old spot (term_words (nodes_of lent.entry.nodes.words.now) left.0) (later (nodes_of lent.entry.nodes.words.now) (oldest bound lent.entry.conns.now) left.0 right.0) area.new result }
     ensures kept { Kept used trail.old trail.new }
 {
     let way = lay_path(lent.rows, trail, used, left, right);
@@ -124,19 +123,20 @@ fn write_path(
 }
 
 // Writes the flat proof of a joined pair into an area of just its words: the left node's term, and what the path appends.
-pub fn write_proof(lent: Lent, area: &mut [u16], left: NodeNo, right: NodeNo)
-    requires between { Between lent.nodes.now lent.conns.now left.0 right.0 }
-    requires right_bound { dist (nodes_of lent.nodes.now) (connections_of lent.conns.now) left.0 right.0 ≤ distance_limit }
-    requires area_len_bound { (length area.old ≤ word_limit) × (length (words (flat_proof (nodes_of lent.nodes.now) (connections_of lent.conns.now) left.0 right.0)) ≡ length area.old) }
-    ensures { area.new ≡ words (flat_proof (nodes_of lent.entry.nodes.now) (connections_of lent.entry.conns.now) left.0 right.0) }
+pub fn write_proof(pair: JoinedPair, area: &mut [u16])
+    requires { (length area.old ≤ word_limit) × (length (words (flat_proof (nodes_of pair.lent.nodes.words.now) (connections_of pair.lent.conns.now) pair.left.0 pair.right.0)) ≡ length area.old) }
+    ensures { area.new ≡ words (flat_proof (nodes_of pair.entry.lent.nodes.words.now) (connections_of pair.entry.lent.conns.now) pair.entry.left.0 pair.entry.right.0) }
 {
+    let lent = pair.lent;
     let mut trail = [0u16; TERM_LIMIT];
-    let end = write_tree(lent.nodes, left, area, 0);
+    let end = write_tree(lent.nodes, pair.left, area, 0);
     let spot = Spot {
         place: 0,
         post: 0,
         end,
     };
     let bound = lent.conns.len() / CONNECTION_WORDS;
-    write_path(lent, &mut trail, 0, area, spot, bound, left, right);
+    write_path(
+        lent, &mut trail, 0, area, spot, bound, pair.left, pair.right,
+    );
 }

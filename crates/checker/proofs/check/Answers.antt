@@ -20,9 +20,8 @@ returns-then-is_empty c = λ rs are.
 
 pub terms_verdict-requires : goal.terms_verdict-requires
 terms_verdict-requires c =
-    let t = terms c in
+    let t = terms (goal.at.terms_verdict-requires c).In_ok-n in
     record {
-      accepted_rules = c.requires;
       has_row = record { terms = t.terms; is = t.row };
       n_nonzero = counted-some c.args.words.now _ t (eqb-false _ _ (sym c.if-is_empty.ensures));
     }

@@ -8,21 +8,19 @@ use Rattle.matching.proofs.BothSides.{fit_is}
 use Rattle.checker.proofs.entry_fits.Goals as goal
 use Rattle.checker.proofs.entry_fits.Goals.{After-right_side-right}
 
-left : (c : After-right_side-right) (x : Rule) → EntryIs c.args.rules.now c.args.i x → PatternsAt c.left_side-left.result.now 0 1 x.left
+left : (c : After-right_side-right) (x : Rule) → EntryIs c.args.entry.rules.now c.args.entry.index x → PatternsAt c.left_side-left.result.now 0 1 x.left
 left c x e = rw c.left_side-left.ensures (left-spells _ _ x e)
 
-right : (c : After-right_side-right) (x : Rule) → EntryIs c.args.rules.now c.args.i x → PatternsAt c.right_side-right.result.now 0 1 x.right
+right : (c : After-right_side-right) (x : Rule) → EntryIs c.args.entry.rules.now c.args.entry.index x → PatternsAt c.right_side-right.result.now 0 1 x.right
 right c x e = rw c.right_side-right.ensures (right-spells _ _ x e)
 
 pub rule_fits-requires : goal.rule_fits-requires
 rule_fits-requires c =
     let above = (goal.at.rule_fits-requires c).After-right_side-right in
-    let e = entry-is _ _ c.requires.has_rule.rule c.requires.has_rule.said in
+    let e = entry-is _ _ c.args.entry.has_rule.rule c.args.entry.has_rule.said in
     record {
       side = record { pattern = _; is = left above _ e };
       side_2 = record { pattern = _; is = right above _ e };
-      well = c.requires.well;
-      well_2 = c.requires.well_2;
     }
 
 pub returns : goal.returns

@@ -10,25 +10,25 @@ use Rattle.connections.proofs.judge_ages.Goals.{In_ok-judge_entry}
 use Rattle.connections.proofs.judge_ages.Goals as goal
 
 pub part-requires : goal.part-requires
-part-requires c = omega (arith, c.requires.1, c.requires.0.stand.few)
+part-requires c = omega (arith, c.requires, c.args.nodes.whole.stand.few)
 
 pub loop-age-init : goal.loop-age-init
-loop-age-init c = sofar-none _ _ _ (c.part.ensures ∙ ap up_to c.requires.1)
+loop-age-init c = sofar-none _ _ _ (c.part.ensures ∙ ap up_to c.requires)
 
 pub judge_entry-requires : goal.judge_entry-requires
 judge_entry-requires c = record {
-  nodes_whole = (c.requires.0, sofar-forest c.requires.0 c.loop-age.invariant, omega (arith, sofar-few c.requires.0 c.loop-age.invariant));
+  forest = (sofar-forest c.args.nodes.whole c.loop-age.invariant, omega (arith, sofar-few c.args.nodes.whole c.loop-age.invariant));
   classes = c.loop-age.invariant.theirs;
 }
 
 pub returns-in_err-judge_entry : goal.returns-in_err-judge_entry
 returns-in_err-judge_entry c =
     handed_on c.from_residual.result _ c.from_residual.ensures.1
-    ∙ ap judgement_of (sym (sofar-bad c.requires.0 c.loop-age.invariant _ (omega (arith, c.div_ceil-age-end.ensures)) c.in_err-judge_entry.ensures))
+    ∙ ap judgement_of (sym (sofar-bad c.args.nodes.whole c.loop-age.invariant _ (omega (arith, c.div_ceil-age-end.ensures)) c.in_err-judge_entry.ensures))
 
 -- the entry was taken
-onward : (c : In_ok-judge_entry) → Onward c.requires.0 c.loop-age.invariant
-onward c = sofar-onward c.requires.0 c.loop-age.invariant (sym c.in_ok-judge_entry.was ∙ c.judge_entry.ensures)
+onward : (c : In_ok-judge_entry) → Onward c.args.nodes.whole c.loop-age.invariant
+onward c = sofar-onward c.args.nodes.whole c.loop-age.invariant (sym c.in_ok-judge_entry.was ∙ c.judge_entry.ensures)
 
 pub connection_at-c-requires : goal.connection_at-c-requires
 connection_at-c-requires c = (onward (goal.at.connection_at-c-requires c).In_ok-judge_entry).room
@@ -40,12 +40,12 @@ join-requires c =
 
 pub loop-age-preserved : goal.loop-age-preserved
 loop-age-preserved c =
-    sofar-more c.requires.0 c.loop-age.invariant (sym c.in_ok-judge_entry.was ∙ c.judge_entry.ensures)
+    sofar-more c.args.nodes.whole c.loop-age.invariant (sym c.in_ok-judge_entry.was ∙ c.judge_entry.ensures)
     (c.join.ensures ∙ ap (λ (x : Connection). classes_joined c.loop-age.classes (cur x) (nxt x)) c.connection_at-c.ensures)
 
 pub shape_of-classes : goal.shape_of-classes
-shape_of-classes c = c.loop-age.invariant.theirs.size ∙ sym c.requires.1
+shape_of-classes c = c.loop-age.invariant.theirs.size ∙ sym c.requires
 
 pub returns : goal.returns
 returns c =
-    ap judgement_of (sym (sofar-done c.requires.0 c.loop-age.invariant (omega (arith, c.div_ceil-age-end.ensures))))
+    ap judgement_of (sym (sofar-done c.args.nodes.whole c.loop-age.invariant (omega (arith, c.div_ceil-age-end.ensures))))

@@ -4,4 +4,4 @@ use Rattle.connections.specs.Classes.{Sofar}
 use Rattle.connections.proofs.judge_ages.Given as goal
 
 abbrev pub invariant-loop-age : goal.invariant-loop-age
-invariant-loop-age l = Sofar l.nodes l.conns l.classes l.age
+invariant-loop-age l = Sofar l.nodes.words.now l.conns l.classes l.age

@@ -23,11 +23,11 @@ many : (nws ks : List ℕ) → length ks ≡ length nws / node_words → length 
 many nws ks h = length-nodes _ _ ∙ sym h
 
 pub returns-then-n-from : goal.returns-then-n-from
-returns-then-n-from c = λ cs f k. out-current _ _ _ (omega (arith, many c.args.nodes.now _ c.requires.1, c.from.ensures))
+returns-then-n-from c = λ cs f k. out-current _ _ _ (omega (arith, many c.args.nodes.words.now _ c.requires, c.from.ensures))
 
 pub returns-then-n-from-2 : goal.returns-then-n-from-2
 returns-then-n-from-2 c = λ cs f k.
-    let e = many c.args.nodes.now _ c.requires.1 in
+    let e = many c.args.nodes.words.now _ c.requires in
     out-next _ _ _ (omega (arith, e, c.from.ensures)) (omega (arith, e, c.from-2.ensures))
 
 pub class_of-requires : goal.class_of-requires
@@ -48,10 +48,10 @@ returns-then-joined c = λ cs f k.
     ∙ sym c.joined.ensures ∙ c.if-joined.true)
 
 -- what no test refuses is placed
-placed : (c : Else-joined) {cs : List Connection} (f : Forest cs) → Classes cs (length c.args.nodes.now / node_words) c.args.classes.now →
-    Placed (nodes_of c.args.nodes.now) cs c.args.c
+placed : (c : Else-joined) {cs : List Connection} (f : Forest cs) → Classes cs (length c.args.nodes.words.now / node_words) c.args.classes.now →
+    Placed (nodes_of c.args.nodes.words.now) cs c.args.c
 placed c f k =
-    let e = many c.args.nodes.now _ c.requires.1 in
+    let e = many c.args.nodes.words.now _ c.requires in
     record {
       current-in = omega (arith, e, c.from.ensures);
       next-in = omega (arith, e, c.from-2.ensures);
@@ -62,18 +62,18 @@ placed c f k =
     }
 
 -- and what `supports` says is whether its support is there
-found : (c : After-supports) {cs : List Connection} → Classes cs (length c.args.nodes.now / node_words) c.args.classes.now →
-    supported (nodes_of c.args.nodes.now) cs Congruence (cur c.args.c) (nxt c.args.c) ≡ c.supports.result
+found : (c : After-supports) {cs : List Connection} → Classes cs (length c.args.nodes.words.now / node_words) c.args.classes.now →
+    supported (nodes_of c.args.nodes.words.now) cs Congruence (cur c.args.c) (nxt c.args.c) ≡ c.supports.result
 found c k =
-    let a : cur c.args.c < length c.args.nodes.now / node_words = omega (arith, c.from.ensures, k.size) in
-    let b : nxt c.args.c < length c.args.nodes.now / node_words = omega (arith, c.from-2.ensures, k.size) in
-    supported-in _ _ _ _ _ a b ∙ sym (support-alike c.requires.0.stand k _ _ a b) ∙ sym c.supports.ensures
+    let a : cur c.args.c < length c.args.nodes.words.now / node_words = omega (arith, c.from.ensures, k.size) in
+    let b : nxt c.args.c < length c.args.nodes.words.now / node_words = omega (arith, c.from-2.ensures, k.size) in
+    supported-in _ _ _ _ _ a b ∙ sym (support-alike c.args.nodes.whole.stand k _ _ a b) ∙ sym c.supports.ensures
 
 pub returns-in-Rule : goal.returns-in-Rule
 returns-in-Rule c = λ cs f k. by-rule _ _ _ (placed (goal.at.returns-in-Rule c).Else-joined f k) c.in-Rule.is
 
 pub supports-requires : goal.supports-requires
-supports-requires c = (rw c.requires.1 c.requires.0.stand, omega (arith, c.from.ensures), omega (arith, c.from-2.ensures))
+supports-requires c = (rw c.requires c.args.nodes.whole.stand, omega (arith, c.from.ensures), omega (arith, c.from-2.ensures))
 
 pub returns-then-supports : goal.returns-then-supports
 returns-then-supports c = λ cs f k.

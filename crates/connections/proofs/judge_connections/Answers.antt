@@ -9,17 +9,17 @@ use Rattle.model.specs.Tables.{node_words}
 use Rattle.connections.proofs.judge_connections.Goals as goal
 
 pub slice_bounds-classes-end : goal.slice_bounds-classes-end
-slice_bounds-classes-end c = omega (arith, c.requires.stand.few)
+slice_bounds-classes-end c = omega (arith, c.args.nodes.whole.stand.few)
 
 pub slice_bounds-judge_ages-end : goal.slice_bounds-judge_ages-end
 slice_bounds-judge_ages-end c =
-    let lent : length {A = ℕ} (take (length c.args.nodes.now / node_words) (replicate node_limit 0)) ≡ length c.args.nodes.now / node_words = length-take-le _ _ (omega (arith, c.requires.stand.few, length-replicate {A = ℕ} node_limit 0)) in
+    let lent : length {A = ℕ} (take (length c.args.nodes.words.now / node_words) (replicate node_limit 0)) ≡ length c.args.nodes.words.now / node_words = length-take-le _ _ (omega (arith, c.args.nodes.whole.stand.few, length-replicate {A = ℕ} node_limit 0)) in
     sym (lent)
 
 pub judge_ages-requires : goal.judge_ages-requires
 judge_ages-requires c =
-    let lent : length {A = ℕ} (take (length c.args.nodes.now / node_words) (replicate node_limit 0)) ≡ length c.args.nodes.now / node_words = length-take-le _ _ (omega (arith, c.requires.stand.few, length-replicate {A = ℕ} node_limit 0)) in
-    (c.requires, lent)
+    let lent : length {A = ℕ} (take (length c.args.nodes.words.now / node_words) (replicate node_limit 0)) ≡ length c.args.nodes.words.now / node_words = length-take-le _ _ (omega (arith, c.args.nodes.whole.stand.few, length-replicate {A = ℕ} node_limit 0)) in
+    lent
 
 pub returns : goal.returns
 returns c = c.judge_ages.ensures

@@ -19,11 +19,11 @@ connection_at-requires c =
     (there).room
 
 pub judge_connection-requires : goal.judge_connection-requires
-judge_connection-requires c = (c.requires.nodes_whole.0, c.requires.classes.size)
+judge_connection-requires c = c.requires.classes.size
 
 pub returns : goal.returns
 returns c =
     let there : There c.args.conns.now c.args.age = entry-there _ _ (sym c.entry_whole.ensures ∙ not-false _ c.if-not-entry_whole.false-raw) in
     let cs = oldest c.args.age c.args.conns.now in
-    c.judge_connection.ensures cs c.requires.nodes_whole.1 c.requires.classes
-    ∙ ap (λ o. judgement_of (add_connection (nodes_of c.args.nodes.now) cs o)) (ap some c.connection_at.ensures ∙ sym (there).is)
+    c.judge_connection.ensures cs c.requires.forest.0 c.requires.classes
+    ∙ ap (λ o. judgement_of (add_connection (nodes_of c.args.nodes.words.now) cs o)) (ap some c.connection_at.ensures ∙ sym (there).is)

@@ -5,4 +5,4 @@ use Rattle.costs.specs.Costs.{priced}
 use Rattle.costs.proofs.fill_costs.Given as goal
 
 abbrev pub invariant-loop-age : goal.invariant-loop-age
-invariant-loop-age l = l.rows ≡ priced (nodes_of l.nodes) l.conns l.age l.initial.rows
+invariant-loop-age l = l.rows ≡ priced (nodes_of l.tables.nodes.now) l.tables.conns.now l.age l.initial.rows

@@ -2,48 +2,49 @@
 use native.Mathlib.Omega.{arith}
 use Prim.Native.Nat.{ℕ, ◌<◌}
 use mathlib.Core.List.{List}
-use mathlib.Core.Path.{sym, ◌∙◌}
+use mathlib.Core.Path.{sym, ap, ◌∙◌}
+use Rattle.std.specs.Prelude.{is_some}
 use Rattle.model.specs.declared.Connection.{Connection}
 use Rattle.forest.specs.Rows.{Climbs}
-use Rattle.costs.proofs.Climbs.{Two, never-nowhere, two_at}
+use Rattle.costs.proofs.Climbs.{Two, two_at, joined-meet}
 use Rattle.costs.proofs.path_cost.Goals as goal
-use Rattle.costs.proofs.path_cost.Goals.{In-Some}
+use Rattle.costs.proofs.path_cost.Goals.{After-unwrap-top}
 
-two : (c : In-Some) → (cs : List Connection) (n : ℕ) → Climbs cs n c.args.rows.now → c.args.left.0 < n → c.args.right.0 < n →
-    Two c.args.rows.now cs c.args.left.0 c.args.right.0 c.in-Some.top.0
+two : (c : After-unwrap-top) → (cs : List Connection) (n : ℕ) → Climbs cs n c.args.rows.now → c.args.left.0 < n → c.args.right.0 < n →
+    Two c.args.rows.now cs c.args.left.0 c.args.right.0 c.unwrap-top.result.0
 two c =
-    λ cs n k p q. two_at _ k (sym c.in-Some.is ∙ c.meet.ensures cs n k p q)
+    λ cs n k p q. two_at _ k (sym c.unwrap-top.ensures ∙ c.meet.ensures cs n k p q)
 
-two_here : (c : In-Some) → Two c.args.rows.now c.requires.conns c.args.left.0 c.args.right.0 c.in-Some.top.0
+two_here : (c : After-unwrap-top) → Two c.args.rows.now c.requires.conns c.args.left.0 c.args.right.0 c.unwrap-top.result.0
 two_here c =
     (two c) c.requires.conns c.requires.nodes c.requires.charged.climbs c.requires.left_in c.requires.right-in
 
-pub climb_cost-requires : goal.climb_cost-requires
-climb_cost-requires c =
-    let above = goal.at.climb_cost-requires c in
-    record { conns = c.requires.conns; nodes = c.requires.nodes; charged = c.requires.charged; inside = c.requires.left_in; above = (two_here above.In-Some).left }
+pub unwrap-top-requires : goal.unwrap-top-requires
+unwrap-top-requires c =
+    let q = c.requires in
+    ap is_some (c.meet.ensures q.conns q.nodes q.charged.climbs q.left_in q.right-in) ∙ joined-meet q.conns c.args.left.0 c.args.right.0 q.same
 
-pub climb_cost-requires-in-Some : goal.climb_cost-requires-in-Some
-climb_cost-requires-in-Some c =
-    let above = goal.at.climb_cost-requires-in-Some c in
-    record { conns = c.requires.conns; nodes = c.requires.nodes; charged = c.requires.charged; inside = c.requires.right-in; above = (two_here above.In-Some).right }
+pub climb_cost-up-requires : goal.climb_cost-up-requires
+climb_cost-up-requires c =
+    let above = goal.at.climb_cost-up-requires c in
+    record { conns = c.requires.conns; nodes = c.requires.nodes; charged = c.requires.charged; inside = c.requires.left_in; above = (two_here above.After-unwrap-top).left }
+
+pub climb_cost-down-requires : goal.climb_cost-down-requires
+climb_cost-down-requires c =
+    let above = goal.at.climb_cost-down-requires c in
+    record { conns = c.requires.conns; nodes = c.requires.nodes; charged = c.requires.charged; inside = c.requires.right-in; above = (two_here above.After-unwrap-top).right }
 
 pub capped-requires : goal.capped-requires
 capped-requires c =
     let above = goal.at.capped-requires c in
-    let t = (two_here above.In-Some) in (
-      omega (arith, c.climb_cost.ensures c.requires.conns c.requires.nodes c.requires.charged.climbs c.requires.left_in t.left),
-      omega (arith, c.climb_cost-in-Some.ensures c.requires.conns c.requires.nodes c.requires.charged.climbs c.requires.right-in t.right),
-    )
+    let t = two_here above.After-unwrap-top in
+    let up = c.climb_cost-up.ensures c.requires.conns c.requires.nodes c.requires.charged.climbs c.requires.left_in t.left in
+    let down = c.climb_cost-down.ensures c.requires.conns c.requires.nodes c.requires.charged.climbs c.requires.right-in t.right in
+    (omega (arith, up, down), omega (arith, up, down))
 
-pub returns-in-Some : goal.returns-in-Some
-returns-in-Some c =
-    let above = goal.at.returns-in-Some c in
+pub returns : goal.returns
+returns c =
+    let above = goal.at.returns c in
     λ cs n k p q.
-    let t = (two above.In-Some) cs n k p q in
-    omega (arith, c.capped.ensures, c.climb_cost-in-Some.ensures cs n k q t.right, c.climb_cost.ensures cs n k p t.left, t.cost)
-
-pub returns-in-None : goal.returns-in-None
-returns-in-None c =
-    absurd (never-nowhere c.requires.conns c.args.left.0 c.args.right.0 c.requires.same
-    (sym c.in-None.is ∙ c.meet.ensures c.requires.conns c.requires.nodes c.requires.charged.climbs c.requires.left_in c.requires.right-in))
+    let t = (two above.After-unwrap-top) cs n k p q in
+    omega (arith, c.capped.ensures, c.climb_cost-down.ensures cs n k q t.right, c.climb_cost-up.ensures cs n k p t.left, t.cost)

@@ -17,7 +17,7 @@ write_answer-requires c =
     let a = c.args in record {
       nodes_whole = c.requires;
       measures = (
-        subst (λ (x : Measured). Measures a.nodes.now a.connections.now a.left.0 a.right.0 x) c.in_ok-d.was c.measure.ensures.measures,
-        subst (λ (x : Measured). Routed a.nodes.now a.connections.now a.left.0 a.right.0 x c.measure.new.rows) c.in_ok-d.was c.measure.ensures.routed,
+        subst (λ (x : Measured). Measures a.tables.nodes.now a.tables.conns.now a.left.0 a.right.0 x) c.in_ok-d.was c.measure.ensures.measures,
+        subst (λ (x : Measured). Routed a.tables.nodes.now a.tables.conns.now a.left.0 a.right.0 x c.measure.new.rows) c.in_ok-d.was c.measure.ensures.routed,
       );
     }

@@ -19,9 +19,9 @@ returns-in_err-judge_tables c =
     handed_on c.from_residual.result _ c.from_residual.ensures.1
     ∙ unmeasured (judge_tables a.nodes.now a.rules.now a.connections.now) a.left.0 a.right.0 _ c.in_err-judge_tables.ensures
 
-pub measure-requires-clause-supported : goal.measure-requires-clause-supported
-measure-requires-clause-supported c =
-    let g = accepted (goal.at.measure-requires-clause-supported c).In_ok-judge_tables in (whole _ _ _ g.what g.is).support
+pub invariant_of-tables : goal.invariant_of-tables
+invariant_of-tables c =
+    let g = accepted (goal.at.invariant_of-tables c).In_ok-judge_tables in record { supported = (whole _ _ _ g.what g.is).support }
 
 pub returns : goal.returns
 returns c =

@@ -22,8 +22,8 @@ returns-in_err-judge_rules c =
     handed_on c.from_residual-in_err-judge_rules.result _ c.from_residual-in_err-judge_rules.ensures.1
     ∙ sym (ap judgement_of (bad-rules _ _ _ (nodes (goal.at.returns-in_err-judge_rules c).In_ok-judge_nodes) _ c.in_err-judge_rules.ensures))
 
-pub judge_connections-requires : goal.judge_connections-requires
-judge_connections-requires c = nodes (goal.at.judge_connections-requires c).In_ok-judge_nodes
+pub invariant_of-judge_connections : goal.invariant_of-judge_connections
+invariant_of-judge_connections c = record { whole = nodes (goal.at.invariant_of-judge_connections c).In_ok-judge_nodes }
 
 pub returns : goal.returns
 returns c =

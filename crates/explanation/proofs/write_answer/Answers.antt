@@ -17,13 +17,13 @@ use Rattle.explanation.proofs.write_answer.Goals.{After-fill_sizes, Else-words-g
 use Rattle.explanation.proofs.write_answer.Goals as goal
 
 -- what counting wants, and that the words are counted
-counted : (c : After-fill_sizes) → Counts c.args.nodes.now c.args.connections.now c.args.rows.now c.fill_sizes.new.sizes
+counted : (c : After-fill_sizes) → Counts c.args.tables.nodes.now c.args.tables.conns.now c.args.rows.now c.fill_sizes.new.sizes
 counted c =
-    counts (replicate node_limit 0) c.requires.nodes_whole.0 c.requires.nodes_whole.1 c.requires.measures.1.charged
+    counts (replicate node_limit 0) c.requires.nodes_whole c.args.tables.supported c.requires.measures.1.charged
     c.requires.measures.1.filled (length-replicate {A = ℕ} node_limit 0) c.fill_sizes.ensures
 
 exact : (c : Else-words-gt-WORD_LIMIT) →
-    c.words_needed-words.result ≡ needed (nodes_of c.args.nodes.now) (connections_of c.args.connections.now) c.args.left.0 c.args.right.0
+    c.words_needed-words.result ≡ needed (nodes_of c.args.tables.nodes.now) (connections_of c.args.tables.conns.now) c.args.left.0 c.args.right.0
 exact c =
     c.words_needed-words.ensures
     ∙ held-exact _ _ _ _ (subst (λ (x : ℕ). x ≤ word_limit) c.words_needed-words.ensures c.if-words-gt-WORD_LIMIT.false)
@@ -31,11 +31,11 @@ exact c =
 pub invariant_of-lent : goal.invariant_of-lent
 invariant_of-lent c = record { counts = counted (goal.at.invariant_of-lent c).After-fill_sizes }
 
-pub words_needed-words-requires : goal.words_needed-words-requires
-words_needed-words-requires c =
+pub invariant_of-pair : goal.invariant_of-pair
+invariant_of-pair c =
     record {
       between = c.requires.measures.1.between;
-      right_bound = c.requires.measures.1.near;
+      near = c.requires.measures.1.near;
     }
 
 pub returns-then-words-gt-WORD_LIMIT : goal.returns-then-words-gt-WORD_LIMIT
@@ -59,14 +59,10 @@ pub write_proof-requires : goal.write_proof-requires
 write_proof-requires c =
     let g = goal.at.write_proof-requires c in
     let n = counted g.After-fill_sizes in
-    let l = length-take-le c.words_needed-words.result c.args.area.now c.if-words-area.false in record {
-      between = c.requires.measures.1.between;
-      right_bound = c.requires.measures.1.near;
-      area_len_bound = (
-        subst (λ (x : ℕ). x ≤ word_limit) (sym l) c.if-words-gt-WORD_LIMIT.false,
-        proof-long n.whole n.support c.requires.measures.1.between ∙ sym (exact g.Else-words-gt-WORD_LIMIT) ∙ sym l,
-      );
-    }
+    let l = length-take-le c.words_needed-words.result c.args.area.now c.if-words-area.false in (
+      subst (λ (x : ℕ). x ≤ word_limit) (sym l) c.if-words-gt-WORD_LIMIT.false,
+      proof-long n.whole n.support c.requires.measures.1.between ∙ sym (exact g.Else-words-gt-WORD_LIMIT) ∙ sym l,
+    )
 
 pub returns : goal.returns
 returns c =

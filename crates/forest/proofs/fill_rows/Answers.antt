@@ -17,7 +17,7 @@ use Rattle.forest.proofs.fill_rows.Goals.{After-loop-age, In-loop-age}
 
 current-in : (c : In-loop-age) → cur (connection_in c.args.conns.now c.loop-age.age) < c.args.n
 current-in c =
-    within-at c.args.n c.args.conns.now (length c.args.conns.now / connection_words) c.loop-age.age c.requires.0.within c.loop-age-test.true
+    within-at c.args.n c.args.conns.now (length c.args.conns.now / connection_words) c.loop-age.age c.requires.within c.loop-age-test.true
 
 tied : (c : After-loop-age) → Tied (oldest c.loop-age.age c.args.conns.now) c.args.n c.args.rows.now c.loop-age.rows × DepthsUnknown c.args.n c.loop-age.rows
 tied c =
@@ -27,7 +27,7 @@ unsounded : (c : After-loop-age) → Sounded (connections_of c.args.conns.now) c
 unsounded c =
     let e : c.loop-age.age ≡ length c.args.conns.now / connection_words = omega arith in
     record {
-      rooted = c.requires.0;
+      rooted = c.requires;
       tied = rw (← e) (tied c).0;
       right = λ a h z. absurd (omega (arith, (tied c).1 a h));
     }
@@ -39,8 +39,8 @@ loop-age-init c = λ old t u. (t, u)
 pub put_parent-requires : goal.put_parent-requires
 put_parent-requires c =
     let above = goal.at.put_parent-requires c in
-    let few : length c.args.conns.now / connection_words < node_limit = omega (arith, length-oldest (length c.args.conns.now / connection_words) c.args.conns.now, c.requires.0.short) in
-    (omega (arith, (current-in above.In-loop-age), ap (λ (x : Connection). cur x) c.connection_at.ensures, c.requires.0.few), omega (arith, few))
+    let few : length c.args.conns.now / connection_words < node_limit = omega (arith, length-oldest (length c.args.conns.now / connection_words) c.args.conns.now, c.requires.short) in
+    (omega (arith, (current-in above.In-loop-age), ap (λ (x : Connection). cur x) c.connection_at.ensures, c.requires.few), omega (arith, few))
 
 pub loop-age-preserved : goal.loop-age-preserved
 loop-age-preserved c =
@@ -53,8 +53,8 @@ loop-age-preserved c =
     c.connection_at.ensures in
     λ old a u.
     let k = l.invariant old a u in (
-      rw e (tied-next c.args.conns.now l.age k.0 c.requires.0.few (current-in above.In-loop-age)),
-      rw e (unknown-more x (l.age + 1) k.0 c.requires.0.few (current-in above.In-loop-age) k.1),
+      rw e (tied-next c.args.conns.now l.age k.0 c.requires.few (current-in above.In-loop-age)),
+      rw e (unknown-more x (l.age + 1) k.0 c.requires.few (current-in above.In-loop-age) k.1),
     )
 
 pub settle_all-requires : goal.settle_all-requires
@@ -66,4 +66,4 @@ pub returns : goal.returns
 returns c =
     let above = goal.at.returns c in
     let w = c.settle_all.ensures (connections_of c.args.conns.now) c.args.rows.now (unsounded above.After-loop-age) in
-    rows_are w.0.tied c.requires.0.few c.requires.1 (λ a h. w.0.right a h (w.1 a h))
+    rows_are w.0.tied c.requires.few c.told-rows (λ a h. w.0.right a h (w.1 a h))

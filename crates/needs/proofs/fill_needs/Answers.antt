@@ -20,9 +20,9 @@ use Rattle.needs.proofs.fill_needs.Goals.{After-connection_at-c, In-loop-age}
 leads : (c : After-connection_at-c) → (up : Bool) →
     let a = c.args in
     let x = c.connection_at-c.result in
-    Led a.lent.nodes.now a.lent.rows.now a.lent.sizes.now x.why (from up x) (to up x)
+    Led a.lent.nodes.words.now a.lent.rows.now a.lent.sizes.now x.why (from up x) (to up x)
 leads c =
-    λ up. subst (λ (x : Connection). Led c.args.lent.nodes.now c.args.lent.rows.now c.args.lent.sizes.now x.why (from up x) (to up x))
+    λ up. subst (λ (x : Connection). Led c.args.lent.nodes.words.now c.args.lent.rows.now c.args.lent.sizes.now x.why (from up x) (to up x))
     (sym c.connection_at-c.ensures) (led c.args.lent.counts c.loop-age.age c.loop-age-test.true up)
 
 few : (c : In-loop-age) → c.loop-age.age < node_limit
@@ -60,12 +60,12 @@ loop-age-preserved c =
     let Said : Bool → ℕ → ℕ → Connection → Type 0 = λ up r cost x. let a = c.args in
     let cs = connections_of a.lent.conns.now in
     Appends cost
-    (appended_by (λ k. get_or a.lent.sizes.now k 0) (weigh a.lent.rows.now cs) (path_nodes c.loop-age.appended.ups c.loop-age.appended.downs cs) a.lent.nodes.now x.why (from up x)
+    (appended_by (λ k. get_or a.lent.sizes.now k 0) (weigh a.lent.rows.now cs) (path_nodes c.loop-age.appended.ups c.loop-age.appended.downs cs) a.lent.nodes.words.now x.why (from up x)
     (to up x)) r in
     let exact : (up : Bool) (r : ℕ) →
     let a = c.args in
-    Said up r c.from-cost.result c.connection_at-c.result → cost_at (nodes_of a.lent.nodes.now) a.lent.conns.now c.loop-age.age ≤ distance_limit →
-    r ≡ held_nodes (need_at (nodes_of a.lent.nodes.now) a.lent.conns.now c.loop-age.age up) = λ up r p. let e = c.from-cost.ensures ∙ c.cost_of.ensures ∙ ap (λ (y : Connection). cost_in c.args.lent.rows.now (cur y)) c.connection_at-c.ensures in
+    Said up r c.from-cost.result c.connection_at-c.result → cost_at (nodes_of a.lent.nodes.words.now) a.lent.conns.now c.loop-age.age ≤ distance_limit →
+    r ≡ held_nodes (need_at (nodes_of a.lent.nodes.words.now) a.lent.conns.now c.loop-age.age up) = λ up r p. let e = c.from-cost.ensures ∙ c.cost_of.ensures ∙ ap (λ (y : Connection). cost_in c.args.lent.rows.now (cur y)) c.connection_at-c.ensures in
     counted-exact c.args.lent.counts c.loop-age.age c.loop-age-test.true c.loop-age.appended.ups c.loop-age.appended.downs c.loop-age.invariant.2 up r
     (subst₂ (Said up r) e c.connection_at-c.ensures p) in
     let said-up : Said true c.connection_need-up.result c.from-cost.result c.connection_at-c.result = c.connection_need-up.ensures (connections_of c.args.lent.conns.now) c.args.lent.counts.charged.climbs in

@@ -8,4 +8,4 @@ use Rattle.needs.proofs.fill_needs.Given as goal
 
 abbrev pub invariant-loop-age : goal.invariant-loop-age
 invariant-loop-age l =
-    (length l.appended.ups ≡ node_limit) × (length l.appended.downs ≡ node_limit) × Needs (nodes_of l.lent.nodes.now) l.lent.conns.now l.appended.ups l.appended.downs l.age
+    (length l.appended.ups ≡ node_limit) × (length l.appended.downs ≡ node_limit) × Needs (nodes_of l.lent.nodes.words.now) l.lent.conns.now l.appended.ups l.appended.downs l.age

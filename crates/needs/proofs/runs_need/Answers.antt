@@ -23,15 +23,15 @@ abbrev roomy : ℕ
 roomy = suc (child_limit * table_bound) + child_limit * table_bound
 
 more : (c : In-loop-i) → let a = c.args in
-    c.loop-i.i < count_in a.lent.nodes.now a.a.0
+    c.loop-i.i < count_in a.lent.nodes.words.now a.a.0
 more c = omega (arith, c.loop-i.invariant.0)
 
 few : (c : In-loop-i) → c.loop-i.i < child_limit
 few c = omega (arith, (more c), c.requires.left-known.narrow)
 
 runs : (c : At-loop-i) → let a = c.args in
-    Runs (λ k. get_or a.lent.sizes.now k 0) (weigh a.lent.rows.now c.requires.conns) (path_nodes a.appended.now.ups a.appended.now.downs c.requires.conns) a.lent.nodes.now
-    (a.a.0 * node_words + children_at) (a.b.0 * node_words + children_at) (count_in a.lent.nodes.now a.a.0) c.loop-i.i c.loop-i.before c.loop-i.sum
+    Runs (λ k. get_or a.lent.sizes.now k 0) (weigh a.lent.rows.now c.requires.conns) (path_nodes a.appended.now.ups a.appended.now.downs c.requires.conns) a.lent.nodes.words.now
+    (a.a.0 * node_words + children_at) (a.b.0 * node_words + children_at) (count_in a.lent.nodes.words.now a.a.0) c.loop-i.i c.loop-i.before c.loop-i.sum
 runs c = c.loop-i.invariant.1 c.requires.conns c.requires.charged.climbs
 
 around-small : (c : After-sizes_from) → c.loop-i.before + c.sizes_from.result ≤ roomy
@@ -40,9 +40,9 @@ around-small c =
     omega (arith, c.sizes_from.ensures.1, (runs above.At-loop-i).low, (few above.In-loop-i))
 
 pair : (c : After-path_need-run) → let a = c.args in
-    let x = child_in a.lent.nodes.now a.a.0 c.loop-i.i in
-    let y = child_in a.lent.nodes.now a.b.0 c.loop-i.i in
-    (cs : List Connection) → Climbs cs (nodes_in a.lent.nodes.now) a.lent.rows.now →
+    let x = child_in a.lent.nodes.words.now a.a.0 c.loop-i.i in
+    let y = child_in a.lent.nodes.words.now a.b.0 c.loop-i.i in
+    (cs : List Connection) → Climbs cs (nodes_in a.lent.nodes.words.now) a.lent.rows.now →
     Comes c.path_need-run.result (weigh a.lent.rows.now cs x y) (path_nodes a.appended.now.ups a.appended.now.downs cs x y)
 pair c =
     let above = goal.at.After-path_need-run c in
@@ -79,9 +79,9 @@ loop-i-preserved c =
     let around : let a = c.args in
     c.loop-i.before + c.sizes_from.result ≡
     c.loop-i.before
-    + sum (λ k. get_or a.lent.sizes.now k 0) (left a.lent.nodes.now (a.a.0 * node_words + children_at) (count_in a.lent.nodes.now a.a.0) (c.loop-i.i + 1)) = let a = c.args in
+    + sum (λ k. get_or a.lent.sizes.now k 0) (left a.lent.nodes.words.now (a.a.0 * node_words + children_at) (count_in a.lent.nodes.words.now a.a.0) (c.loop-i.i + 1)) = let a = c.args in
     ap (λ (k : ℕ). c.loop-i.before + k)
-    (c.sizes_from.ensures.0 ∙ ap (sum (λ k. get_or a.lent.sizes.now k 0)) (drop-words a.lent.nodes.now (a.a.0 * node_words + children_at) _ (c.loop-i.i + 1))) in
+    (c.sizes_from.ensures.0 ∙ ap (sum (λ k. get_or a.lent.sizes.now k 0)) (drop-words a.lent.nodes.words.now (a.a.0 * node_words + children_at) _ (c.loop-i.i + 1))) in
     let a = c.args in (
       c.loop-i.invariant.0,
       λ cs k. runs-next (c.loop-i.invariant.1 cs k) _ _ _ _ _ (more above.In-loop-i) ((pair above.After-path_need-run) cs k).cost ((pair above.After-path_need-run) cs k).nodes (around)
@@ -95,5 +95,5 @@ returns c = λ cs k.
     ∙ ap
     (λ (x : ℕ).
     held_nodes (runs_by (λ k. get_or a.lent.sizes.now k 0) (weigh a.lent.rows.now cs) (path_nodes a.appended.now.ups a.appended.now.downs cs) 1
-    (children_in a.lent.nodes.now a.a.0) (words_from a.lent.nodes.now (a.b.0 * node_words + children_at) x)))
+    (children_in a.lent.nodes.words.now a.a.0) (words_from a.lent.nodes.words.now (a.b.0 * node_words + children_at) x)))
     c.requires.even

@@ -15,7 +15,7 @@ use Rattle.needs.proofs.runs_need.Given as goal
 
 abbrev pub invariant-loop-i : goal.invariant-loop-i
 invariant-loop-i l =
-    (l.n ≡ count_in l.lent.nodes.now l.a.0)
-    × ((cs : List Connection) → Climbs cs (nodes_in l.lent.nodes.now) l.lent.rows.now →
-    Runs (λ k. get_or l.lent.sizes.now k 0) (weigh l.lent.rows.now cs) (path_nodes l.appended.ups l.appended.downs cs) l.lent.nodes.now (l.a.0 * node_words + children_at) (l.b.0 * node_words + children_at)
-    (count_in l.lent.nodes.now l.a.0) l.i l.before l.sum)
+    (l.n ≡ count_in l.lent.nodes.words.now l.a.0)
+    × ((cs : List Connection) → Climbs cs (nodes_in l.lent.nodes.words.now) l.lent.rows.now →
+    Runs (λ k. get_or l.lent.sizes.now k 0) (weigh l.lent.rows.now cs) (path_nodes l.appended.ups l.appended.downs cs) l.lent.nodes.words.now (l.a.0 * node_words + children_at) (l.b.0 * node_words + children_at)
+    (count_in l.lent.nodes.words.now l.a.0) l.i l.before l.sum)

@@ -1,9 +1,7 @@
 use native.Mathlib.Omega.{arith}
-use Prim.Native.Nat.{◌≤◌}
 use mathlib.Core.Path.{sym, ap, ◌∙◌}
 use native.Mathlib.Numerals.{add-one}
 use Rattle.laws.proofs.Handed.{handed_on}
-use Rattle.model.specs.Limits.{node_limit}
 use Rattle.model.specs.Judged.{judgement_of}
 use Rattle.entries.proofs.Nodes.{nodes, nodes-none, node-bad, node-more, node_done}
 use Rattle.nodes.proofs.judge_nodes.Goals as goal

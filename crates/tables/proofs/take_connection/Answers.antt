@@ -38,32 +38,32 @@ module _ (c : After-put_connection) where
       connection-back c.args.conns.now c.args.age c.requires.connection_words_in_bounds (connection_frame c.args.bytes.now) _
       c.put_connection.ensures.slot_after
 
-  held : Sofar c.args.nodes.now lent c.args.classes.now c.args.age
+  held : Sofar c.args.nodes.words.now lent c.args.classes.now c.args.age
   held =
-      subst (λ (l : List ℕ). Sofar c.args.nodes.now l c.args.classes.now c.args.age) (sym written)
-      (connection-held c.args.conns.now c.args.age c.requires.connection_words_in_bounds (connection_frame c.args.bytes.now) c.args.nodes.now
-      c.args.classes.now c.requires.nodes_whole.1)
+      subst (λ (l : List ℕ). Sofar c.args.nodes.words.now l c.args.classes.now c.args.age) (sym written)
+      (connection-held c.args.conns.now c.args.age c.requires.connection_words_in_bounds (connection_frame c.args.bytes.now) c.args.nodes.words.now
+      c.args.classes.now c.requires.sofar)
 
 -- what the judgement on it comes to
 grew : (c : After-judge_entry) (r : Judgement) → c.judge_entry.result ≡ r →
-    ConnectionsGrown c.args.nodes.now c.args.conns.now c.args.bytes.now c.args.age r (lent (goal.at.After-judge_entry c).After-put_connection)
+    ConnectionsGrown c.args.nodes.words.now c.args.conns.now c.args.bytes.now c.args.age r (lent (goal.at.After-judge_entry c).After-put_connection)
 grew c r q = λ cs p.
     let a = c.args in
     let w = written (goal.at.After-judge_entry c).After-put_connection in
     let o = connection_frame a.bytes.now in
-    let ns = nodes_of a.nodes.now in
+    let ns = nodes_of a.nodes.words.now in
     let y = says_some o c.put_connection.ensures.value c.if-not-put_connection.false-raw in
     grown q c.judge_entry.ensures
     (ap (λ (l : List ℕ). add_connection ns (oldest a.age l) (connection_entry l a.age)) w
-    ∙ connection-judged a.conns.now a.age c.requires.connection_words_in_bounds o a.nodes.now a.classes.now c.requires.nodes_whole.1 y.what y.is cs p)
+    ∙ connection-judged a.conns.now a.age c.requires.connection_words_in_bounds o a.nodes.words.now a.classes.now c.requires.sofar y.what y.is cs p)
     (ap (λ (l : List ℕ). connections_to ns l (suc a.age)) w
-    ∙ connection-table a.conns.now a.age c.requires.connection_words_in_bounds o a.nodes.now a.classes.now c.requires.nodes_whole.1 y.what y.is cs p)
+    ∙ connection-table a.conns.now a.age c.requires.connection_words_in_bounds o a.nodes.words.now a.classes.now c.requires.sofar y.what y.is cs p)
 
 pub returns-then-not-put_connection : goal.returns-then-not-put_connection
 unfolding add_connection
 returns-then-not-put_connection c =
     let e = says_none (connection_frame c.args.bytes.now) c.put_connection.ensures.value c.if-not-put_connection.true-raw in record {
-      connections_grown = λ cs p. grown-bad (ap (add_connection (nodes_of c.args.nodes.now) cs) e);
+      connections_grown = λ cs p. grown-bad (ap (add_connection (nodes_of c.args.nodes.words.now) cs) e);
       conns_after = written (goal.at.returns-then-not-put_connection c).After-put_connection;
       classes_after = refl {a = c.args.classes.now};
       onward = tt;
@@ -72,7 +72,7 @@ returns-then-not-put_connection c =
 pub judge_entry-requires : goal.judge_entry-requires
 judge_entry-requires c =
     let h = held (goal.at.judge_entry-requires c).After-put_connection in record {
-      nodes_whole = (c.requires.nodes_whole.0, sofar-forest c.requires.nodes_whole.0 h, omega (arith, sofar-few c.requires.nodes_whole.0 h));
+      forest = (sofar-forest c.args.nodes.whole h, omega (arith, sofar-few c.args.nodes.whole h));
       classes = h.theirs;
     }
 
@@ -89,7 +89,7 @@ returns-in_err-judge_entry c =
 pub join-requires : goal.join-requires
 join-requires c =
     let h = held (goal.at.join-requires c).After-put_connection in
-    let on = sofar-onward c.requires.nodes_whole.0 h (sym c.in_ok-judge_entry.was ∙ c.judge_entry.ensures) in
+    let on = sofar-onward c.args.nodes.whole h (sym c.in_ok-judge_entry.was ∙ c.judge_entry.ensures) in
     (omega (arith, on.current, ap cur c.connection_at-c.ensures), omega (arith, on.next, ap nxt c.connection_at-c.ensures))
 
 pub returns : goal.returns
@@ -101,5 +101,5 @@ returns c =
       connections_grown = grew g.After-judge_entry _ c.in_ok-judge_entry.was;
       conns_after = written g.After-put_connection;
       classes_after = e;
-      onward = sofar-more c.requires.nodes_whole.0 h (sym c.in_ok-judge_entry.was ∙ c.judge_entry.ensures) e;
+      onward = sofar-more c.args.nodes.whole h (sym c.in_ok-judge_entry.was ∙ c.judge_entry.ensures) e;
     }

@@ -27,8 +27,8 @@ overflow_add-top c =
 pub node_at-node-requires : goal.node_at-node-requires
 node_at-node-requires c = fine-room _ _ c.loop-i.invariant.fine (omega arith)
 
-pub open_node-pen-requires : goal.open_node-pen-requires
-open_node-pen-requires c =
+pub open_node-ends-requires : goal.open_node-ends-requires
+open_node-ends-requires c =
     let h = c.loop-i.invariant in
     let kept = c.close-closed.auto.room in
     let t = turn-apart h (omega arith) c.close-closed.ensures.value c.close-closed.ensures.room_after kept in record {
@@ -39,9 +39,9 @@ open_node-pen-requires c =
 pub loop-i-preserved : goal.loop-i-preserved
 loop-i-preserved c =
     let e : flat_words * c.loop-i.i + flat_words ≡ flat_words * (c.loop-i.i + 1) = omega arith in
-    subst (λ (pos : ℕ). Writing c.args.words.now (emit c.args.words.now []) c.open_node-pen.new.room pos c.open_node-pen.result.at c.open_node-pen.result.top) e
+    subst (λ (pos : ℕ). Writing c.args.words.now (emit c.args.words.now []) c.open_node-ends.new.room pos c.open_node-ends.result.at c.open_node-ends.result.top) e
     (turn c.loop-i.invariant (omega arith) c.close-closed.ensures.value c.close-closed.ensures.room_after c.close-closed.auto.room c.node_at-node.ensures
-    c.open_node-pen.auto.room c.open_node-pen.ensures)
+    c.open_node-ends.auto.room c.open_node-ends.ensures)
 
 pub fill_from-requires : goal.fill_from-requires
 fill_from-requires c = let h = c.loop-i.invariant in omega (arith, h.apart, h.inside)

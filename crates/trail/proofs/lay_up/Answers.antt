@@ -15,20 +15,20 @@ use Rattle.forest.proofs.Ends.{apart-yet, arrived}
 use Rattle.trail.proofs.lay_up.Goals as goal
 use Rattle.trail.proofs.lay_up.Goals.{At-loop-to, In-loop-to}
 
-climb : (c : At-loop-to) → Climb c.args.rows.now c.requires.2.conns c.requires.2.nodes c.args.from.0 c.args.to.0 c.loop-to.at.0
+climb : (c : At-loop-to) → Climb c.args.rows.now c.requires.1.conns c.requires.1.nodes c.args.from.0 c.args.to.0 c.loop-to.at.0
     (Laid c.args.trail.now c.args.top c.loop-to.trail c.loop-to.start)
 climb c =
-    c.loop-to.invariant c.requires.2.conns c.requires.2.nodes c.requires.2.climbs c.requires.2.inside c.requires.2.above
+    c.loop-to.invariant c.requires.1.conns c.requires.1.nodes c.requires.1.climbs c.requires.1.inside c.requires.1.above
 
 room : (c : In-loop-to) → (length (ages_at c.args.rows.now c.loop-to.at.0) ≤ c.loop-to.start) × (length c.loop-to.trail ≡ term_limit)
 room c =
     let above = goal.at.In-loop-to c in
-    let few = climb-room c.requires.2.climbs (climb above.At-loop-to) (apart-yet _ _ c.ne.ensures c.loop-to-test.true) in
+    let few = climb-room c.requires.1.climbs (climb above.At-loop-to) (apart-yet _ _ c.ne.ensures c.loop-to-test.true) in
     let e = (climb above.At-loop-to).so.1 in
-    let r = c.requires.2.few in
+    let r = c.requires.1.few in
     let d = (climb above.At-loop-to).done in (
       omega arith,
-      ap length (climb above.At-loop-to).so.0 ∙ length-splice c.args.trail.now c.loop-to.start (reverse d) (omega (arith, length_back d)) ∙ c.requires.0,
+      ap length (climb above.At-loop-to).so.0 ∙ length-splice c.args.trail.now c.loop-to.start (reverse d) (omega (arith, length_back d)) ∙ c.told-trail,
     )
 
 pub loop-to-init : goal.loop-to-init
@@ -42,14 +42,14 @@ overflow_sub-start c =
 pub lay-requires : goal.lay-requires
 lay-requires c =
     let above = goal.at.lay-requires c in
-    let small : c.loop-to.at.0 < node_limit = omega (arith, (climb above.At-loop-to).inside, c.requires.2.climbs.rooted.few) in
-    let g = climb-aged c.requires.2.climbs (climb above.At-loop-to) (apart-yet _ _ c.ne.ensures c.loop-to-test.true) in
-    ((room above.In-loop-to).1, small, g.0, g.1, omega (arith, c.legs_at-start.ensures, (room above.In-loop-to).0, (climb above.At-loop-to).so.1, c.requires.1))
+    let small : c.loop-to.at.0 < node_limit = omega (arith, (climb above.At-loop-to).inside, c.requires.1.climbs.rooted.few) in
+    let g = climb-aged c.requires.1.climbs (climb above.At-loop-to) (apart-yet _ _ c.ne.ensures c.loop-to-test.true) in
+    (small, g.0, g.1, omega (arith, c.legs_at-start.ensures, (room above.In-loop-to).0, (climb above.At-loop-to).so.1, c.requires.0))
 
 pub loop-to-smaller : goal.loop-to-smaller
 loop-to-smaller c =
     let above = goal.at.loop-to-smaller c in
-    climb-falls c.requires.2.climbs (climb above.At-loop-to) _ (apart-yet _ _ c.ne.ensures c.loop-to-test.true) c.next_of-at.ensures
+    climb-falls c.requires.1.climbs (climb above.At-loop-to) _ (apart-yet _ _ c.ne.ensures c.loop-to-test.true) c.next_of-at.ensures
 
 pub loop-to-preserved : goal.loop-to-preserved
 loop-to-preserved c =
@@ -63,7 +63,7 @@ loop-to-preserved c =
     let up : c.loop-to.start ≡ start + length new = omega (arith, c.legs_at-start.ensures, (room above.In-loop-to).0) in (
       c.lay.ensures
           ∙ ap (λ (x : List ℕ). splice x start new) (e.0 ∙ ap (λ (i : ℕ). splice old i (reverse done)) up)
-          ∙ splice-under old start new (reverse done) (omega (arith, e.1, length_back done, c.requires.0, c.requires.1))
+          ∙ splice-under old start new (reverse done) (omega (arith, e.1, length_back done, c.told-trail, c.requires.0))
           ∙ ap (splice old start) (sym (back_one c.args.rows.now c.loop-to.at.0 done)),
       omega (arith, e.1, length-append done new),
     ))

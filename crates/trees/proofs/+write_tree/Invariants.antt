@@ -8,4 +8,4 @@ abbrev pub decreases-write_tree : goal.decreases-write_tree
 decreases-write_tree l = l.n.0
 
 abbrev pub invariant-loop-i : goal.invariant-loop-i
-invariant-loop-i l = (l.count ≡ count_in l.nodes l.n.0) × Grown l.nodes l.n.0 l.initial.area l.at l.area l.end l.i
+invariant-loop-i l = (l.count ≡ count_in l.nodes.words.now l.n.0) × Grown l.nodes.words.now l.n.0 l.initial.area l.at l.area l.end l.i

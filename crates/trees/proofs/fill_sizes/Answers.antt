@@ -15,13 +15,13 @@ loop-i-init c = (refl, filled_none _ _)
 pub loop-i-preserved : goal.loop-i-preserved
 loop-i-preserved c =
     let inv = c.loop-i.invariant in
-    let ns = nodes_of c.args.nodes.now in
-    let here : c.loop-i.i < length c.args.nodes.now / node_words = omega (arith, inv.0) in
-    let sized = subst (λ (t : List ℕ). Sized ns t c.loop-i.i) (sym inv.1) (filled-sized ns c.loop-i.i c.args.sizes.now (omega (arith, c.requires.0.stand.few, c.requires.1))) in (
+    let ns = nodes_of c.args.nodes.words.now in
+    let here : c.loop-i.i < length c.args.nodes.words.now / node_words = omega (arith, inv.0) in
+    let sized = subst (λ (t : List ℕ). Sized ns t c.loop-i.i) (sym inv.1) (filled-sized ns c.loop-i.i c.args.sizes.now (omega (arith, c.args.nodes.whole.stand.few, c.told-sizes))) in (
       inv.0,
       ap (λ (t : List ℕ). set t c.loop-i.i c.held.result) inv.1
           ∙ filled_more ns c.loop-i.i c.args.sizes.now
           (c.held.ensures
           ∙ ap (λ (k : ℕ). held_nodes (1 + k)) c.sizes_from.ensures.0
-          ∙ size-held c.args.nodes.now c.requires.0 c.loop-i.i here c.loop-i.sizes sized),
+          ∙ size-held c.args.nodes.words.now c.args.nodes.whole c.loop-i.i here c.loop-i.sizes sized),
     )

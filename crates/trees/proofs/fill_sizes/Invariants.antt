@@ -8,4 +8,4 @@ use Rattle.trees.specs.Sizes.{filled_sizes}
 use Rattle.trees.proofs.fill_sizes.Given as goal
 
 abbrev pub invariant-loop-i : goal.invariant-loop-i
-invariant-loop-i l = (l.n ≡ length l.nodes / node_words) × (l.sizes ≡ filled_sizes (nodes_of l.nodes) l.i l.initial.sizes)
+invariant-loop-i l = (l.n ≡ length l.nodes.words.now / node_words) × (l.sizes ≡ filled_sizes (nodes_of l.nodes.words.now) l.i l.initial.sizes)

@@ -25,13 +25,14 @@ use mathlib.Core.Bool.{not}
 use Rattle.model.specs.declared.Connection.{Connection}
 use Rattle.model.specs.declared.NodeNo.{NodeNo}
 use Rattle.model.specs.declared.Direction.{Direction}
+use Rattle.model.specs.declared.RuleNo.{RuleNo}
 use Rattle.model.specs.declared.Justification.TheVariants.{Congruence}
-use Rattle.model.specs.Term.{Terms, marked, words}
-use Rattle.model.specs.Flat.{mark_for, marked_term, walked, later}
+use Rattle.model.specs.Term.{Mark, Terms, marked, words}
+use Rattle.model.specs.Flat.{mark_for, marked_term, later}
 use Rattle.costs.specs.Costs.{nodes_in}
 use Rattle.laws.specs.Area.{splice}
-use Rattle.trees.specs.Area.{around, direction_of}
-use Rattle.writer.proofs.Connected.{leg-rule, leg-twin, mark-word, marked-room, marked-wrote, matched, same-direction, start-in}
+use Rattle.trees.specs.Area.{around}
+use Rattle.writer.proofs.Connected.{leg-rule, leg-twin, marked-room, marked-wrote, matched, start-in}
 use Rattle.paths.specs.Meet.{top_of}
 use Rattle.forest.specs.Rows.{connections_of}
 use Rattle.trail.specs.Legs.{ages}
@@ -46,16 +47,16 @@ pub write_congruence-overflow_sub-back : goal.write_congruence-overflow_sub-back
 write_congruence-overflow_sub-back t c =
     let above = goal.at.write_congruence-overflow_sub-back t c in
     let a = c.args in
-    omega (arith, (all-is t above.After-words_of-back), one-long (term_of (nodes_of a.lent.nodes.now) a.a.0))
+    omega (arith, (all-is t above.After-words_of-back), one-long (term_of (nodes_of a.lent.nodes.words.now) a.a.0))
 
 pub write_congruence-loop-i-init : goal.write_congruence-loop-i-init
 write_congruence-loop-i-init t c =
     let above = goal.at.write_congruence-loop-i-init t c in
     let a = c.args in
     let k = c.requires.writer_asks.stood in
-    let some = one-long (term_of (nodes_of a.lent.nodes.now) a.a.0) in (
+    let some = one-long (term_of (nodes_of a.lent.nodes.words.now) a.a.0) in (
       kept-all,
-      twin-start a.lent.nodes.now a.lent.conns.now a.age a.a.0 a.b.0 _ (accepted-nodes c.args.lent.counts) c.requires.matched.left_in c.requires.matched.right-in
+      twin-start a.lent.nodes.words.now a.lent.conns.now a.age a.a.0 a.b.0 _ (accepted-nodes c.args.lent.counts) c.requires.matched.left_in c.requires.matched.right-in
           c.count_of-n.ensures (c.count_of-n.ensures ∙ c.requires.matched.twins.even) (cut k) (omega (arith, length-pre k)) (omega (arith, length-post k, (all-is t above.After-words_of-back))),
     )
 
@@ -118,16 +119,16 @@ pub write_hop-append-requires : goal.write_hop-append-requires
 write_hop-append-requires t c =
     let above = goal.at.write_hop-append-requires t c in
     let to_in : let a = c.args in
-    c.start_of-b.result.0 < nodes_in a.lent.nodes.now = let a = c.args in
+    c.start_of-b.result.0 < nodes_in a.lent.nodes.words.now = let a = c.args in
     omega (arith, ap (λ (x : NodeNo). x.0) (to_is t above.After-start_of-b), start-in c.args.lent.counts.support a.age c.requires.listed (not a.up)) in
     let a = c.args in
     let k = asked t above.After-start_of-a in
-    let ns = nodes_of a.lent.nodes.now in
+    let ns = nodes_of a.lent.nodes.words.now in
     let m = mark_for c.in-Rule.rule.0 c.in-Rule.d a.up in
     let old = hop-old-is t above.After-words_of-old in
     let place = k.stood.room in
     let room = k.room in record {
-      nodes_whole = (c.args.lent.counts.whole, to_in, mark-word (walked c.in-Rule.d a.up) c.mark_for.ensures);
+      node_listed = to_in;
       whole_nodes = (k.stood.whole.0, k.stood.whole.2, omega arith);
       post_in_bounds = omega (
         arith,
@@ -143,8 +144,8 @@ write_hop-write_congruence-requires t c =
     let twin = matched c.args.lent.counts.support a.age c.requires.listed a.up (congruent t above.In-Congruence) in (
       omega arith,
       (
-        subst₂ (λ (x y : NodeNo). Matched a.lent.nodes.now a.lent.conns.now a.age x.0 y.0) (sym (from_is t above.After-start_of-a)) (sym (to_is t above.After-start_of-b)) twin,
-        subst (λ (f : Terms). WriterAsks a.trail.now a.area.now a.at (term_words (nodes_of a.lent.nodes.now) c.start_of-a.result.0) f a.used)
+        subst₂ (λ (x y : NodeNo). Matched a.lent.nodes.words.now a.lent.conns.now a.age x.0 y.0) (sym (from_is t above.After-start_of-a)) (sym (to_is t above.After-start_of-b)) twin,
+        subst (λ (f : Terms). WriterAsks a.trail.now a.area.now a.at (term_words (nodes_of a.lent.nodes.words.now) c.start_of-a.result.0) f a.used)
             (twin-terms t above.In-Congruence) (asked t above.After-start_of-a),
       ),
     )
@@ -153,15 +154,14 @@ pub write_hop-returns-in-Rule : goal.write_hop-returns-in-Rule
 write_hop-returns-in-Rule t c =
     let above = goal.at.write_hop-returns-in-Rule t c in
     let a = c.args in
-    let ns = nodes_of a.lent.nodes.now in
-    let r = c.in-Rule.rule.0 in
+    let ns = nodes_of a.lent.nodes.words.now in
     let b = c.start_of-b.result.0 in
-    let d = ap direction_of c.mark_for.ensures ∙ same-direction (walked c.in-Rule.d a.up) in
     let after =
     c.append.ensures.area_after
     ∙ ap₂
-    (λ (o : ℕ) (x : Direction). splice a.area.now a.at.end (pre_of a.area.now a.at o ++ (words (marked_term ns (marked x r) b) ++ post_of a.area.now a.at)))
-    (hop-old-is t above.After-words_of-old) d in record {
+    (λ (o : ℕ) (m : Mark). splice a.area.now a.at.end (pre_of a.area.now a.at o ++ (words (marked_term ns m b) ++ post_of a.area.now a.at)))
+    (hop-old-is t above.After-words_of-old)
+    (ap₂ (λ (d : Direction) (r : RuleNo). marked d r.0) c.mark_for.ensures.1 c.mark_for.ensures.0) in record {
       wrote = subst₂ (λ (x : NodeNo) (f : Terms). Wrote a.area.now a.at (term_words ns x.0) f c.append.new.area c.append.result)
           (from_is t above.After-start_of-a) (sym (rule-terms t above.In-Rule)) (marked-wrote ns b (asked t above.After-start_of-a).stood _ c.append.ensures.value after);
       kept = kept-all;
@@ -171,7 +171,7 @@ pub write_hop-returns-in-Congruence : goal.write_hop-returns-in-Congruence
 write_hop-returns-in-Congruence t c =
     let above = goal.at.write_hop-returns-in-Congruence t c in
     let a = c.args in
-    let ns = nodes_of a.lent.nodes.now in record {
+    let ns = nodes_of a.lent.nodes.words.now in record {
       wrote = subst₂
           (λ (x : NodeNo) (f : Terms).
           Wrote a.area.now a.at (term_words ns x.0) f c.write_congruence.new.area c.write_congruence.result)
@@ -181,7 +181,7 @@ write_hop-returns-in-Congruence t c =
 
 pub write_path-lay_path-way-requires : goal.write_path-lay_path-way-requires
 write_path-lay_path-way-requires t c =
-    (c.requires.writer_asks.long, layable c.args.lent.counts c.requires.reached c.args.used c.requires.writer_asks.few)
+    layable c.args.lent.counts c.requires.reached c.args.used c.requires.writer_asks.few
 
 pub write_path-loop-top-init : goal.write_path-loop-top-init
 write_path-loop-top-init t c = (kept-all, λ l r b. hopping-none b)

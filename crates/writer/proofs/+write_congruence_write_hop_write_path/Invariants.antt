@@ -23,11 +23,11 @@ decreases-write_path l = 3 * l.bound
 abbrev pub invariant-write_congruence-loop-i : goal.invariant-write_congruence-loop-i
 invariant-write_congruence-loop-i l =
     Kept l.used l.initial.trail l.trail
-    × State l.lent.nodes.now l.lent.conns.now l.age l.a l.b l.n l.initial.area l.spot (to_come l.lent.nodes.now l.a.0 l.n l.i) (to_come l.lent.nodes.now l.b.0 l.n l.i) l.area l.front l.back l.end
+    × State l.lent.nodes.words.now l.lent.conns.now l.age l.a l.b l.n l.initial.area l.spot (to_come l.lent.nodes.words.now l.a.0 l.n l.i) (to_come l.lent.nodes.words.now l.b.0 l.n l.i) l.area l.front l.back l.end
 
 abbrev pub invariant-write_path-loop-top : goal.invariant-write_path-loop-top
 invariant-write_path-loop-top l =
-    let ns = nodes_of l.lent.nodes.now in
+    let ns = nodes_of l.lent.nodes.words.now in
     Kept l.used l.initial.trail l.trail
     × ((p q : ℕ) → Begun ns l.lent.conns.now l.bound l.spot l.initial.area l.initial.trail l.used l.way.turn l.way.top p q →
     Hopping ns l.lent.conns.now l.bound q (later ns (oldest l.bound l.lent.conns.now) p q) (pre_of l.initial.area l.spot (length (term_words ns p))) (post_of l.initial.area l.spot) l.initial.area l.spot.end

@@ -14,45 +14,45 @@ use Rattle.writer.proofs.write_proof.Goals as goal
 use Rattle.writer.proofs.write_proof.Goals.{After-write_tree-end, Start}
 
 room : (c : Start) → let a = c.args in
-    let ns = nodes_of a.lent.nodes.now in
-    length (term_words ns a.left.0) + length (words (later ns (connections_of a.lent.conns.now) a.left.0 a.right.0)) ≡ length a.area.now
+    let ns = nodes_of a.pair.lent.nodes.words.now in
+    length (term_words ns a.pair.left.0) + length (words (later ns (connections_of a.pair.lent.conns.now) a.pair.left.0 a.pair.right.0)) ≡ length a.area.now
 room c =
     let a = c.args in
-    let ns = nodes_of a.lent.nodes.now in
+    let ns = nodes_of a.pair.lent.nodes.words.now in
     omega (
       arith,
-      c.requires.area_len_bound.1,
-      ap length (proof-words a.lent.nodes.now a.lent.conns.now a.left.0 a.right.0),
-      length-append (term_words ns a.left.0) (words (later ns (connections_of a.lent.conns.now) a.left.0 a.right.0)),
+      c.requires.1,
+      ap length (proof-words a.pair.lent.nodes.words.now a.pair.lent.conns.now a.pair.left.0 a.pair.right.0),
+      length-append (term_words ns a.pair.left.0) (words (later ns (connections_of a.pair.lent.conns.now) a.pair.left.0 a.pair.right.0)),
     )
 
 end_is : (c : After-write_tree-end) → let a = c.args in
-    c.write_tree-end.result ≡ length (term_words (nodes_of a.lent.nodes.now) a.left.0)
+    c.write_tree-end.result ≡ length (term_words (nodes_of a.pair.lent.nodes.words.now) a.pair.left.0)
 end_is c =
     let a = c.args in
-    omega (arith, c.write_tree-end.ensures.value, first-long (nodes_of a.lent.nodes.now) a.left.0)
+    omega (arith, c.write_tree-end.ensures.value, first-long (nodes_of a.pair.lent.nodes.words.now) a.pair.left.0)
 
 pub write_tree-end-requires : goal.write_tree-end-requires
 write_tree-end-requires c =
     let above = goal.at.write_tree-end-requires c in
     record {
-      nodes_whole = (c.args.lent.counts.whole, c.requires.between.left_in);
-      n_in_bounds = omega (arith, (room above.Start), first-long (nodes_of c.args.lent.nodes.now) c.args.left.0);
+      n_listed = c.args.pair.between.left_in;
+      n_in_bounds = omega (arith, (room above.Start), first-long (nodes_of c.args.pair.lent.nodes.words.now) c.args.pair.left.0);
     }
 
 pub write_path-requires : goal.write_path-requires
 write_path-requires c =
     let above = goal.at.write_path-requires c in
     let a = c.args in record {
-      reached = reached c.args.lent.counts c.requires.between;
-      writer_asks = first-asked (nodes_of a.lent.nodes.now) a.left.0 (later (nodes_of a.lent.nodes.now) (connections_of a.lent.conns.now) a.left.0 a.right.0) a.area.now
-          (room above.Start) c.write_tree-end.ensures.area_after (end_is above.After-write_tree-end) (length-replicate {A = ℕ} term_limit 0) c.requires.area_len_bound.0 (omega (arith, counted c.args.lent.counts c.requires.between, c.requires.right_bound));
+      reached = reached c.args.pair.lent.counts c.args.pair.between;
+      writer_asks = first-asked (nodes_of a.pair.lent.nodes.words.now) a.pair.left.0 (later (nodes_of a.pair.lent.nodes.words.now) (connections_of a.pair.lent.conns.now) a.pair.left.0 a.pair.right.0) a.area.now
+          (room above.Start) c.write_tree-end.ensures.area_after (end_is above.After-write_tree-end) (length-replicate {A = ℕ} term_limit 0) c.requires.0 (omega (arith, counted c.args.pair.lent.counts c.args.pair.between, c.args.pair.near));
     }
 
 pub returns : goal.returns
 returns c =
     let above = goal.at.returns c in
     let a = c.args in
-    all-written (nodes_of a.lent.nodes.now) a.left.0 (later (nodes_of a.lent.nodes.now) (connections_of a.lent.conns.now) a.left.0 a.right.0) a.area.now
+    all-written (nodes_of a.pair.lent.nodes.words.now) a.pair.left.0 (later (nodes_of a.pair.lent.nodes.words.now) (connections_of a.pair.lent.conns.now) a.pair.left.0 a.pair.right.0) a.area.now
     (room above.Start) c.write_tree-end.ensures.area_after (end_is above.After-write_tree-end) c.write_path.ensures.wrote
-    ∙ sym (proof-words a.lent.nodes.now a.lent.conns.now a.left.0 a.right.0)
+    ∙ sym (proof-words a.pair.lent.nodes.words.now a.pair.lent.conns.now a.pair.left.0 a.pair.right.0)

@@ -5,8 +5,17 @@ use Rattle.reader.specs.declared.Place.{Place}
 use Rattle.reader.specs.Fold.{here}
 use Rattle.explain.specs.declared.input.Outcome.{Outcome}
 use Rattle.explain.specs.Pieces.{PieceTaken}
-use Rattle.explain.proofs.Chains.{through-ready, chain-farther, chain-on, chain-within, chain-end}
+use Rattle.explain.proofs.Chains.{Longer, through-ready, chain-on, chain-end}
+use Rattle.explain.proofs.input.take_piece.Goals.{In_ok-next}
 use Rattle.explain.proofs.input.take_piece.Goals as goal
+
+-- a step that goes on makes the chain longer
+longer : (c : In_ok-next) →
+    Longer c.args.piece.now c.args.place c.args.memory.now.store c.args.memory.now.line c.loop-from.from c.in_ok-next.next c.step.new.memory.store
+    c.step.new.memory.line c.in_ok-next.to
+longer c =
+    chain-on c.loop-from.invariant.0 c.requires (omega arith) _ _ c.step.result c.step.ensures.step _ _ c.in_ok-next.was c.step.ensures.line_after
+    c.loop-from-test.true
 
 pub loop-from-init : goal.loop-from-init
 loop-from-init c = (here, omega arith)
@@ -22,17 +31,7 @@ returns-in_err-next c =
     c.step.ensures.line_after)
 
 pub loop-from-smaller : goal.loop-from-smaller
-loop-from-smaller c =
-    let more = c.loop-from-test.true in
-    omega (
-      arith,
-      more,
-      chain-farther c.loop-from.invariant.0 c.requires (omega arith) c.step.new.memory.line c.step.new.memory.store c.step.result c.step.ensures.step _ _ c.in_ok-next.was more,
-    )
+loop-from-smaller c = let more = longer (goal.at.loop-from-smaller c).In_ok-next in omega (arith, more.farther)
 
 pub loop-from-preserved : goal.loop-from-preserved
-loop-from-preserved c =
-    let i = c.loop-from.invariant in (
-      chain-on i.0 c.requires (omega arith) c.step.new.memory.line c.step.new.memory.store c.step.result c.step.ensures.step _ _ c.in_ok-next.was c.step.ensures.line_after,
-      chain-within i.0 c.requires (omega arith) c.step.new.memory.line c.step.new.memory.store c.step.result c.step.ensures.step _ _ c.in_ok-next.was i.1,
-    )
+loop-from-preserved c = let more = longer (goal.at.loop-from-preserved c).In_ok-next in (more.chain, more.within)

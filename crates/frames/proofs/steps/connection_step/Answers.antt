@@ -30,9 +30,12 @@ ready-requires c =
     let few = held-few c.requires.0 c.requires.1 in
     omega (arith, few, length-take-le _ _ (held-classes c.requires.0 c.requires.1))
 
-pub slice_bounds-take_connection-end : goal.slice_bounds-take_connection-end
-slice_bounds-take_connection-end c =
+pub slice_bounds-front-end : goal.slice_bounds-front-end
+slice_bounds-front-end c =
     sym (length-take-le _ _ (omega (arith, held-few c.requires.0 c.requires.1, c.requires.1.nodes)))
+
+pub invariant_of-front : goal.invariant_of-front
+invariant_of-front c = record { whole = held-whole c.requires.0 c.requires.1 }
 
 pub returns-in_err-take_connection : goal.returns-in_err-take_connection
 returns-in_err-take_connection c rws area room s h =
@@ -41,11 +44,11 @@ returns-in_err-take_connection c rws area room s h =
     (connection-grown a.counts _ _ a.classes.now s h a.bytes.now refl c.take_connection.ensures.connections_grown).says
     (handed_on c.from_residual.result _ c.from_residual.ensures.1)
 
-pub slice_bounds-take_connection-end-2 : goal.slice_bounds-take_connection-end-2
-slice_bounds-take_connection-end-2 c = omega (arith, held-classes c.requires.0 c.requires.1, c.classes-1.given.1)
+pub slice_bounds-take_connection-end : goal.slice_bounds-take_connection-end
+slice_bounds-take_connection-end c = omega (arith, held-classes c.requires.0 c.requires.1, c.classes-1.given.1)
 
-pub slice_bounds-take_connection-end-3 : goal.slice_bounds-take_connection-end-3
-slice_bounds-take_connection-end-3 c =
+pub slice_bounds-take_connection-end-2 : goal.slice_bounds-take_connection-end-2
+slice_bounds-take_connection-end-2 c =
     sym (length-take-le _ _ (omega (arith, held-classes c.requires.0 c.requires.1, c.classes-1.given.1)))
 
 pub take_connection-requires : goal.take_connection-requires
@@ -53,7 +56,7 @@ take_connection-requires c =
     let ready-are = take_at _ _ _ (c.classes-1.given.0 ∙ length-take-le _ _ (held-classes c.requires.0 c.requires.1)) ∙ c.ready.ensures in
     let whole = held-whole c.requires.0 c.requires.1 in
     let sofar = held-sofar c.requires.0 c.requires.1 ready-are in record {
-      nodes_whole = (whole, sofar);
+      sofar = sofar;
       connection_words_in_bounds = omega (arith, sofar-few whole sofar, c.requires.1.conns);
     }
 

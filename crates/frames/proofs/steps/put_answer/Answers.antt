@@ -9,29 +9,36 @@ use Rattle.model.specs.Run.{refusal_text}
 use Rattle.laws.specs.Area.{splice}
 use Rattle.frames.specs.Answer.{Printable}
 use Rattle.frames.proofs.Query.{answer-fits, answer-long, answer-put}
+use Rattle.frames.proofs.steps.put_answer.Goals.{In-Ok}
 use Rattle.frames.proofs.steps.put_answer.Goals as goal
+
+-- the words that were written are terms, and each is a word
+module _ (c : In-Ok) where
+  fine : Printable (Ok (written c.in-Ok.field-0.distance c.in-Ok.field-0.words)) c.args.area.now
+  fine = subst (λ (x : Answer). Printable x c.args.area.now) c.in-Ok.is c.requires.0
+
+  small : (i : ℕ) → get_or c.args.area.now i 0 < 65536
+  small i = omega (arith, c.shared_slice_known-1.given i)
 
 pub put_lines-requires : goal.put_lines-requires
 put_lines-requires c =
-    let fine : Printable (Ok (written c.in-Ok.field-0.distance c.in-Ok.field-0.words)) c.args.area.now = subst (λ (x : Answer). Printable x c.args.area.now) c.in-Ok.is c.requires.0 in
-    let small : (i : ℕ) → get_or c.args.area.now i 0 < 65536 = λ i. omega (arith, c.shared_slice_known-1.given i) in (
-      (fine).1,
+    let some = (goal.at.put_lines-requires c).In-Ok in (
+      (fine some).1,
       omega (
         arith,
         c.put_distance-at.ensures.value,
         c.room-1.given,
-        answer-fits c.in-Ok.field-0.distance c.in-Ok.field-0.words c.args.area.now c.args.room.now c.requires.1 (small) (fine).0 c.requires.2,
+        answer-fits c.in-Ok.field-0.distance c.in-Ok.field-0.words c.args.area.now c.args.room.now c.requires.1 (small some) (fine some).0 c.requires.2,
       ),
     )
 
 pub returns-in-Ok : goal.returns-in-Ok
 returns-in-Ok c =
-    let fine : Printable (Ok (written c.in-Ok.field-0.distance c.in-Ok.field-0.words)) c.args.area.now = subst (λ (x : Answer). Printable x c.args.area.now) c.in-Ok.is c.requires.0 in
-    let small : (i : ℕ) → get_or c.args.area.now i 0 < 65536 = λ i. omega (arith, c.shared_slice_known-1.given i) in record {
+    let some = (goal.at.returns-in-Ok c).In-Ok in record {
       value = rw c.in-Ok.is
-          (answer-long _ _ c.args.area.now c.args.room.now c.requires.1 (small) (fine).0 c.requires.2 c.put_distance-at.ensures.value c.put_lines.ensures.value);
+          (answer-long _ _ c.args.area.now c.args.room.now c.requires.1 (small some) (fine some).0 c.requires.2 c.put_distance-at.ensures.value c.put_lines.ensures.value);
       room_after = rw c.in-Ok.is
-          (answer-put _ _ c.args.area.now c.args.room.now c.requires.1 (small) (fine).0 c.requires.2 c.put_distance-at.ensures.value c.put_distance-at.ensures.room_after c.put_lines.ensures.room_after);
+          (answer-put _ _ c.args.area.now c.args.room.now c.requires.1 (small some) (fine some).0 c.requires.2 c.put_distance-at.ensures.value c.put_distance-at.ensures.room_after c.put_lines.ensures.room_after);
     }
 
 pub returns-in-Err : goal.returns-in-Err

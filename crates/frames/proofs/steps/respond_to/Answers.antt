@@ -2,7 +2,7 @@
 use native.Mathlib.Omega.{arith}
 use Rattle.entries.proofs.Connections.{connections}
 use Rattle.frames.proofs.Front.{few-nodes, front-whole, front-supported}
-use Rattle.frames.proofs.Query.{replied, query-right}
+use Rattle.frames.proofs.Query.{replied, pair-answered}
 use Rattle.frames.proofs.steps.respond_to.Goals as goal
 
 pub overflow_mul-n : goal.overflow_mul-n
@@ -37,6 +37,6 @@ put_answer-printed-requires c =
 pub returns : goal.returns
 returns c s h =
     let a = c.args in
-    query-right a.counts a.store.now s h a.line _ _
+    pair-answered a.counts a.store.now s h a.line _ _
     (replied a.counts a.store.now.nodes a.store.now.conns s.tables h.nodes h.conns (omega arith) c.respond-answer.ensures)
     c.put_answer-printed.ensures.value c.put_answer-printed.ensures.room_after

@@ -1,7 +1,0 @@
--- `checker::later_terms` meets its contract. The loop's invariant: the verdict on what is left behind the term at `before` is that on all
--- terms. Assumes nothing.
-use Rattle.checker.proofs.Later.{LaterHere}
-use Rattle.checker.proofs.later_terms.Given as goal
-
-abbrev pub invariant-loop-k : goal.invariant-loop-k
-invariant-loop-k l = LaterHere l.rules l.words l.n l.before l.at l.k
