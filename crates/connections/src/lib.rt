@@ -21,7 +21,7 @@ use model::{
 };
 use nodes::{Nodes, child_of, count_of, operator_of};
 
-// Which way a rule connection's last word says.
+// Which way a rule connection's last word says. (No From of a word in model: a word says it in a judged table alone, where it is 0 or 1.)
 fn direction_of(word: u16) -> Direction
     ensures { result ≡ direction_in word }
 {

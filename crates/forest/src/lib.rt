@@ -1,5 +1,6 @@
 // The connections climbed: a row for each node, all that a climb reads of it, and where two climbs meet.
-// Numbers are narrowed by `as` where a limit is proved: a TryFrom would be unwrapped each time.
+// Numbers are narrowed by `as` where a limit is proved: a TryFrom would be unwrapped each time. That a node is below the limit stays a clause,
+// here and where these rows are climbed: a type would tie each number to the table lent beside it, and be built at each step.
 #![tactic(auto)]
 
 ghost use Rattle.std.specs.Prelude.{List, [], ◌++◌, ◌≡◌, ℕ, suc, ◌+◌, ◌<◌, ◌≤◌, length, get_or, set, drop};
