@@ -15,6 +15,6 @@ pub one-grown : (a : List ℕ) (n : ℕ) → (a ++ digits n) ++ bytes "\n" ≡ o
 unfolding one_field
 one-grown a n = simp append_assoc
 
-pub two-grown : (a : List ℕ) (n : ℕ) (b : List ℕ) (m : ℕ) → (((a ++ digits n) ++ b) ++ digits m) ++ bytes "\n" ≡ two_fields a n b m
+pub two-grown : (a : List ℕ) (n : ℕ) (b : List ℕ) (m : ℕ) → ((a ++ digits n) ++ (b ++ digits m)) ++ bytes "\n" ≡ two_fields a n b m
 unfolding two_fields
 two-grown a n b m = simp append_assoc

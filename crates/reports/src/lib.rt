@@ -1,8 +1,9 @@
 // What the program prints beside terms: a refusal with its line, a verdict, a distance; each put at the front of a room.
 #![tactic(auto)]
 
-ghost use Rattle.std.specs.Prelude.{◌≡◌, ◌+◌, ◌≤◌, length};
+ghost use Rattle.std.specs.Prelude.{◌≡◌, ◌++◌, ◌+◌, ◌≤◌, length};
 ghost use Rattle.model.specs.Run.{refusal_text, verdict_text};
+ghost use Rattle.model.specs.Text.{digits};
 ghost use Rattle.laws.specs.Area.{splice};
 ghost use Rattle.reports.specs.Reports.{number_room, report_room, one_field, two_fields, distance_text, rejection_text};
 
@@ -12,29 +13,37 @@ use model::{Rejection, Verdict};
 // Room enough for each of them, whatever the numbers.
 pub const REPORT_ROOM: usize = 64;
 
-// A name, a number and a line feed.
+// A name and a number.
+fn field(pen: &mut Pen, a: &[u8], n: u64)
+    requires { pen.old.at + (length a.now + number_room) ≤ length pen.old.room.now }
+    ensures same_reference { pen.new.room.ghost_name ≡ pen.old.room.ghost_name }
+    ensures at_after { pen.new.at ≡ pen.old.at + length (a.now ++ digits n) }
+    ensures room_after { pen.new.room.now ≡ splice pen.old.room.now pen.old.at (a.now ++ digits n) }
+{
+    pen.put(a);
+    pen.put_number(n);
+}
+
+// One field and a line feed.
 fn one(pen: &mut Pen, a: &[u8], n: u64)
     requires { pen.old.at + (length a.now + number_room + 1) ≤ length pen.old.room.now }
     ensures same_reference { pen.new.room.ghost_name ≡ pen.old.room.ghost_name }
     ensures at_after { pen.new.at ≡ pen.old.at + length (one_field a.now n) }
     ensures room_after { pen.new.room.now ≡ splice pen.old.room.now pen.old.at (one_field a.now n) }
 {
-    pen.put(a);
-    pen.put_number(n);
+    field(pen, a, n);
     pen.put(b"\n");
 }
 
-// A name and a number, twice, and a line feed.
+// Two fields and a line feed.
 fn two(pen: &mut Pen, a: &[u8], n: u64, b: &[u8], m: u64)
     requires { pen.old.at + (length a.now + number_room + (length b.now + number_room) + 1) ≤ length pen.old.room.now }
     ensures same_reference { pen.new.room.ghost_name ≡ pen.old.room.ghost_name }
     ensures at_after { pen.new.at ≡ pen.old.at + length (two_fields a.now n b.now m) }
     ensures room_after { pen.new.room.now ≡ splice pen.old.room.now pen.old.at (two_fields a.now n b.now m) }
 {
-    pen.put(a);
-    pen.put_number(n);
-    pen.put(b);
-    pen.put_number(m);
+    field(pen, a, n);
+    field(pen, b, m);
     pen.put(b"\n");
 }
 
@@ -74,13 +83,8 @@ pub fn put_rejection(room: &mut [u8], number: u16, place: usize) -> usize
     ensures value { result ≡ length (rejection_text number place) }
     ensures room_after { room.new ≡ splice room.old 0 (rejection_text number place) }
 {
-    put_two(
-        room,
-        b"rejected ",
-        u64::from(number),
-        b" term ",
-        place as u64,
-    )
+    let n = u64::from(number);
+    put_two(room, b"rejected ", n, b" term ", place as u64)
 }
 
 // `accepted T` (terms) or `rejected N term K`

@@ -10,8 +10,8 @@ use Rattle.reports.proofs.put_rejection.Goals as goal
 pub returns : goal.returns
 unfolding two_fields bytes
 returns c =
-    let said : rejection_text c.from.result c.args.place ≡ rejection_text c.args.number c.args.place =
-    ap (λ (n : ℕ). rejection_text n c.args.place) c.from.ensures in
+    let said : rejection_text c.from-n.result c.args.place ≡ rejection_text c.args.number c.args.place =
+    ap (λ (n : ℕ). rejection_text n c.args.place) c.from-n.ensures in
     record {
       value = c.put_two.ensures.value ∙ ap length said;
       room_after = c.put_two.ensures.room_after ∙ ap (splice c.args.room.now 0) said;
