@@ -83,8 +83,11 @@ impl<'a> Offered<'a> {
         ensures { FaultIs self.entry.rules.now self.entry.words.now before at result }
     {
         let n = terms::node_at(self.words, at + FLAT_WORDS * mark.nodes);
+        // By let and else, and not by `?`: the edit accepts_all changes what is returned here.
         let found = rule_table::find_rule(self.rules, n.rule);
-        let i = found.ok_or(Refusal::RuleUnlisted)?;
+        let Some(i) = found else {
+            return Err(Refusal::RuleUnlisted);
+        };
         if !self.step_by(i, before, at, mark) {
             return Err(Refusal::NoStep);
         }

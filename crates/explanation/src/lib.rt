@@ -129,8 +129,11 @@ fn answer(tables: Accepted, left: NodeNo, right: NodeNo, area: &mut [u16]) -> An
     ensures { Answers tables.entry.nodes.now tables.entry.conns.now area.old left.0 right.0 result area.new }
 {
     let mut rows = [NO_ROW; NODE_LIMIT];
-    let d = measure(tables, left, right, &mut rows)?;
-    write_answer(tables, &rows, d, left, right, area)
+    // By a match and not by `?`: the edit far_as_full changes the refusal here.
+    match measure(tables, left, right, &mut rows) {
+        Ok(d) => write_answer(tables, &rows, d, left, right, area),
+        Err(refusal) => Err(refusal),
+    }
 }
 
 // The same, and the area zero behind what was written; after a refusal all of it is, whatever it held. It takes slices as `query` does: the

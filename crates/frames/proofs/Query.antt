@@ -151,6 +151,13 @@ module _ (k : Counts) (nws cws : List ℕ) (t : Tables) (n : nodes_to nws k.node
         lent = q;
       }
 
+-- an answer that was put is a reply, whatever stood in the room
+pub replies : (k : Counts) (nws cws : List ℕ) (line l r : ℕ) (old area room : List ℕ) {m n : ℕ} {a : Answer} → m ≡ program_area →
+    Responds (take (k.nodes * node_words) nws) (take (k.connections * connection_words) cws) m l r a area →
+    n ≡ length (answered a line area) → room ≡ splice old 0 (answered a line area) → Replies k nws cws line l r n area old room
+replies k nws cws line l r old area room e h q w t n c =
+    let x = replied k nws cws t n c e h in (q ∙ ap length (x.text line), w ∙ ap (splice old 0) (x.text line), x.lent)
+
 -- the counts behind a query
 abbrev pub after_query : Counts → Counts
 after_query k = record { kind = 4; nodes = k.nodes; rules = k.rules; connections = k.connections; offered = 0 }
@@ -199,10 +206,3 @@ module _ (k : Counts) (t : Store) (s : State) (h : Stands k t s) (line : ℕ) wh
       Replies k t.nodes t.conns line l.0 r.0 n area old room → StepIs (queried s line o) (Ok (after_query k, n)) (with_text t area room)
   query-right o {l} {r} old area room e x =
       let y = x s.tables h.nodes h.conns in query-pair o _ _ e (by-text l.0 r.0 old area room y.0 y.1)
-
-  -- the same of what an answer says
-  pub pair-answered : {l r : ℕ} {a : Answer} (area room : List ℕ) {n : ℕ} → Replied s.tables l r a area →
-      n ≡ length (answered a line area) → room ≡ splice t.room 0 (answered a line area) →
-      StepIs (queried s line (some (record { left = l; right = r }))) (Ok (after_query k, n)) (with_text t area room)
-  pair-answered {l} {r} area room x e w =
-      by-text l r t.room area room (e ∙ ap length (x.text line)) (w ∙ ap (splice t.room 0) (x.text line))

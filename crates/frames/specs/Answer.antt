@@ -11,6 +11,8 @@ use Rattle.entries.specs.Connections.{connections_to}
 use Rattle.reports.specs.Reports.{distance_text}
 use Rattle.text.specs.Lines.{SayTerms, lines_of}
 use Rattle.frames.specs.declared.Counts.{Counts}
+use Rattle.frames.specs.declared.Store.{Store}
+use Rattle.frames.specs.Step.{Step}
 
 -- the words that were written are terms
 abbrev pub Printable : Answer → List ℕ → Type 0
@@ -30,3 +32,13 @@ abbrev pub Replies : Counts → List ℕ → List ℕ → ℕ → ℕ → ℕ �
 Replies k nws cws line l r n area before after =
     (t : Tables) → nodes_to nws k.nodes ≡ good t.nodes → connections_to t.nodes cws k.connections ≡ good t.conns
     → (n ≡ length (reply_text t line l r)) × (after ≡ splice before 0 (reply_text t line l r)) × (area ≡ area_after t program_area l r)
+
+-- The same of a step. Of the store it writes the area and the room alone.
+abbrev pub StepReplies : Counts → ℕ → ℕ → ℕ → Store → Step → Store → Type 0
+StepReplies k line l r t (Ok (j, n)) u =
+    Replies k t.nodes t.conns line l r n u.area t.room u.room
+    × (u.nodes ≡ t.nodes)
+    × (u.rules ≡ t.rules)
+    × (u.conns ≡ t.conns)
+    × (u.classes ≡ t.classes)
+StepReplies k line l r t (Err q) u = ⊥

@@ -4,7 +4,7 @@ ghost use Rattle.model.specs.Limits.{node_limit, program_area};
 ghost use Rattle.model.specs.Frame.{words_frame};
 ghost use Rattle.decode.specs.Asked.{offered_of};
 ghost use Rattle.laws.specs.Area.{splice};
-ghost use Rattle.frames.specs.Answer.{Printable, answered};
+ghost use Rattle.frames.specs.Answer.{Printable, answered, StepReplies};
 ghost use Rattle.frames.specs.State.{text_room, Held, Rooms, Running};
 ghost use Rattle.frames.specs.Step.{classes_for, NodeStep, RuleStep, ConnectionStep, WordsStep, CloseStep, QueryStep, PairStep};
 
@@ -158,7 +158,8 @@ fn put_answer(answer: Answer, line: u64, area: &[u16], room: &mut [u8]) -> usize
 // The answer to a query over the counted entries, and what it prints.
 fn respond_to(counts: Counts, line: u64, left: NodeNo, right: NodeNo, store: &mut Store) -> Step
     requires { Running counts store.old }
-    ensures { PairStep counts line left.0 right.0 store.old result store.new }
+    ensures replies { StepReplies counts line left.0 right.0 store.old result store.new }
+    ensures pair_step { PairStep counts line left.0 right.0 store.old result store.new }
 {
     let n = counts.nodes * NODE_WORDS;
     let c = counts.connections * CONNECTION_WORDS;

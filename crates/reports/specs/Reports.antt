@@ -1,5 +1,5 @@
 -- The lines that report numbers: a name and a number, once or twice, and a line feed.
-use Rattle.std.specs.Prelude.{ℕ, List, ◌++◌}
+use Rattle.std.specs.Prelude.{ℕ, List, ◌++◌, Result, Ok, Err}
 use Rattle.model.specs.Text.{bytes, digits}
 
 -- how many digits a number of 64 bits has at most, and room enough for each report
@@ -22,3 +22,8 @@ distance_text d = bytes "distance " ++ (digits d ++ bytes "\n")
 -- "`rejected N term K`", for any number
 abbrev pub rejection_text : ℕ → ℕ → List ℕ
 rejection_text n k = two_fields (bytes "rejected ") n (bytes " term ") k
+
+-- "A verdict prints `accepted T` (terms) or `rejected N term K`": of whatever refuses, by the number and the place that are told of it
+abbrev pub told_text : {R : Type 0} → (R → ℕ) → (R → ℕ) → Result ℕ R → List ℕ
+told_text told_number told_place (Ok n) = one_field (bytes "accepted ") n
+told_text told_number told_place (Err e) = rejection_text (told_number e) (told_place e)

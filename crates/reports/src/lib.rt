@@ -1,14 +1,15 @@
 // What the program prints beside terms: a refusal with its line, a verdict, a distance; each put at the front of a room.
 #![tactic(auto)]
 
-ghost use Rattle.std.specs.Prelude.{◌≡◌, ◌++◌, ◌+◌, ◌≤◌, length};
-ghost use Rattle.model.specs.Run.{refusal_text, verdict_text};
+ghost use Rattle.std.specs.Prelude.{ℕ, ◌≡◌, ◌++◌, ◌+◌, ◌≤◌, length};
+ghost use Rattle.model.specs.Refusal.{number};
+ghost use Rattle.model.specs.Run.{refusal_text};
 ghost use Rattle.model.specs.Text.{digits};
 ghost use Rattle.laws.specs.Area.{splice};
-ghost use Rattle.reports.specs.Reports.{number_room, report_room, one_field, two_fields, distance_text, rejection_text};
+ghost use Rattle.reports.specs.Reports.{number_room, report_room, one_field, two_fields, distance_text, rejection_text, told_text};
 
 use letters::Pen;
-use model::{Rejection, Verdict};
+use model::Rejection;
 
 // Room enough for each of them, whatever the numbers.
 pub const REPORT_ROOM: usize = 64;
@@ -87,15 +88,49 @@ pub fn put_rejection(room: &mut [u8], number: u16, place: usize) -> usize
     put_two(room, b"rejected ", n, b" term ", place as u64)
 }
 
+// What refuses a proof, as it is told: by which number, and at which term.
+pub trait Told: Copy {
+    ghost told_number: { Self → ℕ };
+
+    ghost told_place: { Self → ℕ };
+
+    fn told(self) -> (u16, usize)
+        ensures { (result.0 ≡ told_number self) × (result.1 ≡ told_place self) };
+}
+
+impl Told for Rejection {
+    ghost told_number = { λ r. number r.refusal };
+
+    ghost told_place = { λ r. r.place };
+
+    fn told(self) -> (u16, usize) {
+        (u16::from(self.refusal), self.place)
+    }
+}
+
+// Any number is told with its place, a refusal's or not.
+impl Told for (u16, usize) {
+    ghost told_number = { λ p. p.0 };
+
+    ghost told_place = { λ p. p.1 };
+
+    fn told(self) -> (u16, usize) {
+        self
+    }
+}
+
 // `accepted T` (terms) or `rejected N term K`
-pub fn put_verdict(room: &mut [u8], verdict: Verdict) -> usize
+pub fn put_verdict<R: Told>(room: &mut [u8], verdict: Result<usize, R>) -> usize
     requires { report_room ≤ length room.old }
-    ensures value { result ≡ length (verdict_text verdict) }
-    ensures room_after { room.new ≡ splice room.old 0 (verdict_text verdict) }
+    ensures value { result ≡ length (told_text R.told_number R.told_place verdict) }
+    ensures room_after { room.new ≡ splice room.old 0 (told_text R.told_number R.told_place verdict) }
 {
     match verdict {
         Ok(terms) => put_one(room, b"accepted ", terms as u64),
-        Err(Rejection { refusal, place }) => put_rejection(room, u16::from(refusal), place),
+        Err(rejection) => {
+            let (number, place) = rejection.told();
+            put_rejection(room, number, place)
+        }
     }
 }
 

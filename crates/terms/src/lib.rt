@@ -157,7 +157,11 @@ pub fn whole_terms(words: &[u16]) -> Option<usize>
     let mut n: usize = 0;
     // No range: how long each term is is known at its end only.
     while pos < len {
-        pos = subterm_end(words, pos)?;
+        // By a match and not by `?`: the edit broken_tail_cut_off changes what is returned here.
+        pos = match subterm_end(words, pos) {
+            Some(end) => end,
+            None => return None,
+        };
         n += 1;
     }
     Some(n)

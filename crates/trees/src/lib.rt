@@ -18,7 +18,7 @@ ghost use Rattle.trees.specs.Sizes.{held_nodes, table_bound, filled_sizes};
 
 use model::{Direction, FLAT_WORDS, NODE_LIMIT, NODE_WORDS, NodeNo, OpNo, RuleNo, WORD_LIMIT};
 use nodes::{Nodes, child_of, count_of, operator_of};
-use terms::node_at;
+use terms::{TreeNode, node_at};
 
 // The first number of nodes whose words are past the limit: what is above is held here.
 pub const NODE_CAP: usize = WORD_LIMIT / FLAT_WORDS + 1;
@@ -112,16 +112,30 @@ fn words_of_mark(mark: Option<Mark>) -> (u16, u16)
     }
 }
 
-// The one place where a node's words are written.
+// The one place where a node's words are written, as they stand.
+fn put_words(area: &mut [u16], at: usize, n: TreeNode)
+    requires { at + flat_words ≤ length area.old }
+    ensures { area.new ≡ splice area.old at (n.op.0 ∷ n.count ∷ n.mark ∷ n.rule.0 ∷ []) }
+{
+    area[at] = n.op.0;
+    area[at + 1] = n.count;
+    area[at + 2] = n.mark;
+    area[at + 3] = n.rule.0;
+}
+
+// Writes a node, with a mark or without.
 fn put_node(area: &mut [u16], at: usize, op: OpNo, count: u16, mark: Option<Mark>)
     requires { at + flat_words ≤ length area.old }
     ensures { area.new ≡ splice area.old at (op.0 ∷ count ∷ mark_word (mark_of mark) ∷ rule_word (mark_of mark) ∷ []) }
 {
     let (direction, rule) = words_of_mark(mark);
-    area[at] = op.0;
-    area[at + 1] = count;
-    area[at + 2] = direction;
-    area[at + 3] = rule;
+    let n = TreeNode {
+        op,
+        count,
+        mark: direction,
+        rule: RuleNo(rule),
+    };
+    put_words(area, at, n);
 }
 
 // Writes the root of n's tree, with a mark or without.
@@ -157,7 +171,12 @@ fn copy_bare(area: &mut [u16], from: usize, to: usize, at: usize)
     let count = (to - from) / FLAT_WORDS;
     for k in 0..count {
         let n = node_at(area, from + FLAT_WORDS * k);
-        put_node(area, at + FLAT_WORDS * k, n.op, n.count, None);
+        let bare = TreeNode {
+            mark: 0,
+            rule: RuleNo(0),
+            ..n
+        };
+        put_words(area, at + FLAT_WORDS * k, bare);
     }
 }
 

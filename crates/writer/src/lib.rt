@@ -32,7 +32,7 @@ fn start_of(c: Connection, up: bool) -> NodeNo
 // which are written from call to call, and of other terms at each, so that a struct would be built anew with a proof at every call.
 #[cycle(write_congruence_write_hop_write_path)]
 fn write_hop(
-    lent: Lent,
+    lent: &Lent,
     trail: &mut [u16; TERM_LIMIT],
     used: usize,
     area: &mut [u16],
@@ -40,9 +40,9 @@ fn write_hop(
     age: usize,
     up: bool,
 ) -> usize
-    requires listed { age < length lent.conns.now / connection_words }
-    requires writer_asks { WriterAsks trail.old area.old at (term_words (nodes_of lent.nodes.words.now) (start_of (connection_in lent.conns.now age) up).0) (leg_terms (nodes_of lent.nodes.words.now) lent.conns.now age up) used }
-    ensures wrote { Wrote area.old at (term_words (nodes_of lent.entry.nodes.words.now) (start_of (connection_in lent.entry.conns.now age) up).0) (leg_terms (nodes_of lent.entry.nodes.words.now) lent.entry.conns.now age up) area.new result }
+    requires listed { age < length lent.now.conns.now / connection_words }
+    requires writer_asks { WriterAsks trail.old area.old at (term_words (nodes_of lent.now.nodes.words.now) (start_of (connection_in lent.now.conns.now age) up).0) (leg_terms (nodes_of lent.now.nodes.words.now) lent.now.conns.now age up) used }
+    ensures wrote { Wrote area.old at (term_words (nodes_of lent.now.nodes.words.now) (start_of (connection_in lent.now.conns.now age) up).0) (leg_terms (nodes_of lent.now.nodes.words.now) lent.now.conns.now age up) area.new result }
     ensures kept { Kept used trail.old trail.new }
 {
     let c = connection_at(lent.conns, age);
@@ -60,7 +60,7 @@ fn write_hop(
 // Rewrites the children first to last, from a's to b's, each by its own path over older connections, the others held.
 #[cycle(write_congruence_write_hop_write_path)]
 fn write_congruence(
-    lent: Lent,
+    lent: &Lent,
     trail: &mut [u16; TERM_LIMIT],
     used: usize,
     area: &mut [u16],
@@ -69,9 +69,9 @@ fn write_congruence(
     a: NodeNo,
     b: NodeNo,
 ) -> usize
-    requires matched { Matched lent.nodes.words.now lent.conns.now age a.0 b.0 }
-    requires writer_asks { WriterAsks trail.old area.old spot (term_words (nodes_of lent.nodes.words.now) a.0) (twin_terms (nodes_of lent.nodes.words.now) lent.conns.now age a.0 b.0) used }
-    ensures wrote { Wrote area.old spot (term_words (nodes_of lent.entry.nodes.words.now) a.0) (twin_terms (nodes_of lent.entry.nodes.words.now) lent.entry.conns.now age a.0 b.0) area.new result }
+    requires matched { Matched lent.now.nodes.words.now lent.now.conns.now age a.0 b.0 }
+    requires writer_asks { WriterAsks trail.old area.old spot (term_words (nodes_of lent.now.nodes.words.now) a.0) (twin_terms (nodes_of lent.now.nodes.words.now) lent.now.conns.now age a.0 b.0) used }
+    ensures wrote { Wrote area.old spot (term_words (nodes_of lent.now.nodes.words.now) a.0) (twin_terms (nodes_of lent.now.nodes.words.now) lent.now.conns.now age a.0 b.0) area.new result }
     ensures kept { Kept used trail.old trail.new }
 {
     let n = count_of(lent.nodes.words, a);
@@ -97,7 +97,7 @@ fn write_congruence(
 // which falls at each round: nothing reads it but the proof that the writers end.
 #[cycle(write_congruence_write_hop_write_path)]
 fn write_path(
-    lent: Lent,
+    lent: &Lent,
     trail: &mut [u16; TERM_LIMIT],
     used: usize,
     area: &mut [u16],
@@ -106,9 +106,9 @@ fn write_path(
     left: NodeNo,
     right: NodeNo,
 ) -> usize
-    requires reached { Reached lent.nodes.words.now lent.conns.now bound left.0 right.0 }
-    requires writer_asks { WriterAsks trail.old area.old spot (term_words (nodes_of lent.nodes.words.now) left.0) (later (nodes_of lent.nodes.words.now) (oldest bound lent.conns.now) left.0 right.0) used }
-    ensures wrote { Wrote area.old spot (term_words (nodes_of lent.entry.nodes.words.now) left.0) (later (nodes_of lent.entry.nodes.words.now) (oldest bound lent.entry.conns.now) left.0 right.0) area.new result }
+    requires reached { Reached lent.now.nodes.words.now lent.now.conns.now bound left.0 right.0 }
+    requires writer_asks { WriterAsks trail.old area.old spot (term_words (nodes_of lent.now.nodes.words.now) left.0) (later (nodes_of lent.now.nodes.words.now) (oldest bound lent.now.conns.now) left.0 right.0) used }
+    ensures wrote { Wrote area.old spot (term_words (nodes_of lent.now.nodes.words.now) left.0) (later (nodes_of lent.now.nodes.words.now) (oldest bound lent.now.conns.now) left.0 right.0) area.new result }
     ensures kept { Kept used trail.old trail.new }
 {
     let way = lay_path(lent.rows, trail, used, left, right);
@@ -137,6 +137,6 @@ pub fn write_proof(pair: JoinedPair, area: &mut [u16])
     };
     let bound = lent.conns.len() / CONNECTION_WORDS;
     write_path(
-        lent, &mut trail, 0, area, spot, bound, pair.left, pair.right,
+        &lent, &mut trail, 0, area, spot, bound, pair.left, pair.right,
     );
 }

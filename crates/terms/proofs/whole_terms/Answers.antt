@@ -4,21 +4,21 @@ use Rattle.terms.proofs.Place.{term-length}
 use Rattle.terms.proofs.Counted.{whole-next, whole-broken, whole-done}
 use Rattle.terms.proofs.whole_terms.Goals as goal
 
-pub returns-in_err-pos : goal.returns-in_err-pos
-returns-in_err-pos c =
+pub returns-in-None : goal.returns-in-None
+returns-in-None c =
     let l = c.loop-pos in
-    rw c.from_residual.ensures (whole-broken c.args.words.now l.pos l.n c.in_err-pos.ensures (omega arith) l.invariant)
+    whole-broken c.args.words.now l.pos l.n c.in-None.ensures (omega arith) l.invariant
 
 pub loop-pos-smaller : goal.loop-pos-smaller
 loop-pos-smaller c =
-    let f = c.in_ok-pos.ensures in
+    let f = c.in-Some.ensures in
     omega (arith, term-length _ _ _ f.term f.is, one-long f.term, f.is.within)
 
 pub loop-pos-preserved : goal.loop-pos-preserved
 loop-pos-preserved c =
     let l = c.loop-pos in
-    let f = c.in_ok-pos.ensures in
-    whole-next c.args.words.now l.pos l.n c.in_ok-pos.pos f.term f.is l.invariant
+    let f = c.in-Some.ensures in
+    whole-next c.args.words.now l.pos l.n c.in-Some.end f.term f.is l.invariant
 
 pub returns : goal.returns
 returns c =

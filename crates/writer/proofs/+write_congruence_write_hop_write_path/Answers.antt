@@ -47,16 +47,16 @@ pub write_congruence-overflow_sub-back : goal.write_congruence-overflow_sub-back
 write_congruence-overflow_sub-back t c =
     let above = goal.at.write_congruence-overflow_sub-back t c in
     let a = c.args in
-    omega (arith, (all-is t above.After-words_of-back), one-long (term_of (nodes_of a.lent.nodes.words.now) a.a.0))
+    omega (arith, (all-is t above.After-words_of-back), one-long (term_of (nodes_of a.lent.now.nodes.words.now) a.a.0))
 
 pub write_congruence-loop-i-init : goal.write_congruence-loop-i-init
 write_congruence-loop-i-init t c =
     let above = goal.at.write_congruence-loop-i-init t c in
     let a = c.args in
     let k = c.requires.writer_asks.stood in
-    let some = one-long (term_of (nodes_of a.lent.nodes.words.now) a.a.0) in (
+    let some = one-long (term_of (nodes_of a.lent.now.nodes.words.now) a.a.0) in (
       kept-all,
-      twin-start a.lent.nodes.words.now a.lent.conns.now a.age a.a.0 a.b.0 _ (accepted-nodes c.args.lent.counts) c.requires.matched.left_in c.requires.matched.right-in
+      twin-start a.lent.now.nodes.words.now a.lent.now.conns.now a.age a.a.0 a.b.0 _ (accepted-nodes c.args.lent.now.counts) c.requires.matched.left_in c.requires.matched.right-in
           c.count_of-n.ensures (c.count_of-n.ensures ∙ c.requires.matched.twins.even) (cut k) (omega (arith, length-pre k)) (omega (arith, length-post k, (all-is t above.After-words_of-back))),
     )
 
@@ -99,7 +99,7 @@ write_congruence-loop-i-preserved t c =
     let above = goal.at.write_congruence-loop-i-preserved t c in (
       kept_more c.loop-i.invariant.0 c.write_path-end.ensures.kept,
       child-next (state t above.After-child_of-y) (pre-plain c.requires.writer_asks.stood) (post-plain c.requires.writer_asks.stood) (spot t above.After-words_of-back-in-loop-i) refl (behind t above.After-words_of-back-in-loop-i) refl (whole t above.Start)
-          c.write_path-end.ensures.wrote (leads c.args.lent.counts (reached t above.After-child_of-y)) _ (omega (arith, (new_is t above.After-words_of-front).0)),
+          c.write_path-end.ensures.wrote (leads c.args.lent.now.counts (reached t above.After-child_of-y)) _ (omega (arith, (new_is t above.After-words_of-front).0)),
     )
 
 pub write_congruence-returns : goal.write_congruence-returns
@@ -113,17 +113,17 @@ write_congruence-returns t c =
 pub write_hop-words_of-old-requires : goal.write_hop-words_of-old-requires
 write_hop-words_of-old-requires t c =
     let above = goal.at.write_hop-words_of-old-requires t c in
-    omega (arith, (from_in t above.After-start_of-a), c.args.lent.counts.whole.stand.few)
+    omega (arith, (from_in t above.After-start_of-a), c.args.lent.now.counts.whole.stand.few)
 
 pub write_hop-append-requires : goal.write_hop-append-requires
 write_hop-append-requires t c =
     let above = goal.at.write_hop-append-requires t c in
     let to_in : let a = c.args in
-    c.start_of-b.result.0 < nodes_in a.lent.nodes.words.now = let a = c.args in
-    omega (arith, ap (λ (x : NodeNo). x.0) (to_is t above.After-start_of-b), start-in c.args.lent.counts.support a.age c.requires.listed (not a.up)) in
+    c.start_of-b.result.0 < nodes_in a.lent.now.nodes.words.now = let a = c.args in
+    omega (arith, ap (λ (x : NodeNo). x.0) (to_is t above.After-start_of-b), start-in c.args.lent.now.counts.support a.age c.requires.listed (not a.up)) in
     let a = c.args in
     let k = asked t above.After-start_of-a in
-    let ns = nodes_of a.lent.nodes.words.now in
+    let ns = nodes_of a.lent.now.nodes.words.now in
     let m = mark_for c.in-Rule.rule.0 c.in-Rule.d a.up in
     let old = hop-old-is t above.After-words_of-old in
     let place = k.stood.room in
@@ -141,11 +141,11 @@ pub write_hop-write_congruence-requires : goal.write_hop-write_congruence-requir
 write_hop-write_congruence-requires t c =
     let above = goal.at.write_hop-write_congruence-requires t c in
     let a = c.args in
-    let twin = matched c.args.lent.counts.support a.age c.requires.listed a.up (congruent t above.In-Congruence) in (
+    let twin = matched c.args.lent.now.counts.support a.age c.requires.listed a.up (congruent t above.In-Congruence) in (
       omega arith,
       (
-        subst₂ (λ (x y : NodeNo). Matched a.lent.nodes.words.now a.lent.conns.now a.age x.0 y.0) (sym (from_is t above.After-start_of-a)) (sym (to_is t above.After-start_of-b)) twin,
-        subst (λ (f : Terms). WriterAsks a.trail.now a.area.now a.at (term_words (nodes_of a.lent.nodes.words.now) c.start_of-a.result.0) f a.used)
+        subst₂ (λ (x y : NodeNo). Matched a.lent.now.nodes.words.now a.lent.now.conns.now a.age x.0 y.0) (sym (from_is t above.After-start_of-a)) (sym (to_is t above.After-start_of-b)) twin,
+        subst (λ (f : Terms). WriterAsks a.trail.now a.area.now a.at (term_words (nodes_of a.lent.now.nodes.words.now) c.start_of-a.result.0) f a.used)
             (twin-terms t above.In-Congruence) (asked t above.After-start_of-a),
       ),
     )
@@ -154,7 +154,7 @@ pub write_hop-returns-in-Rule : goal.write_hop-returns-in-Rule
 write_hop-returns-in-Rule t c =
     let above = goal.at.write_hop-returns-in-Rule t c in
     let a = c.args in
-    let ns = nodes_of a.lent.nodes.words.now in
+    let ns = nodes_of a.lent.now.nodes.words.now in
     let b = c.start_of-b.result.0 in
     let after =
     c.append.ensures.area_after
@@ -171,7 +171,7 @@ pub write_hop-returns-in-Congruence : goal.write_hop-returns-in-Congruence
 write_hop-returns-in-Congruence t c =
     let above = goal.at.write_hop-returns-in-Congruence t c in
     let a = c.args in
-    let ns = nodes_of a.lent.nodes.words.now in record {
+    let ns = nodes_of a.lent.now.nodes.words.now in record {
       wrote = subst₂
           (λ (x : NodeNo) (f : Terms).
           Wrote a.area.now a.at (term_words ns x.0) f c.write_congruence.new.area c.write_congruence.result)
@@ -181,7 +181,7 @@ write_hop-returns-in-Congruence t c =
 
 pub write_path-lay_path-way-requires : goal.write_path-lay_path-way-requires
 write_path-lay_path-way-requires t c =
-    layable c.args.lent.counts c.requires.reached c.args.used c.requires.writer_asks.few
+    layable c.args.lent.now.counts c.requires.reached c.args.used c.requires.writer_asks.few
 
 pub write_path-loop-top-init : goal.write_path-loop-top-init
 write_path-loop-top-init t c = (kept-all, λ l r b. hopping-none b)

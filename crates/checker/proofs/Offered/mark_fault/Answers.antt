@@ -15,14 +15,12 @@ use Rattle.model.specs.Rule.{Rule, listed, is_listed}
 use Rattle.model.specs.Step.{step, unlisted}
 use Rattle.model.specs.Tables.{rule_table}
 use Rattle.terms.specs.Place.{node_of}
-use Rattle.laws.proofs.Handed.{handed_on}
 use Rattle.rule_table.specs.Entries.{where_listed}
 use Rattle.rule_table.proofs.Table.{table-found, table-nowhere}
-use Rattle.checker.specs.Check.{FaultIs}
-use Rattle.checker.proofs.Later.{fault-unlisted, fault-step, fault-none, ok-some, err-none}
+use Rattle.checker.proofs.Later.{fault-unlisted, fault-step, fault-none}
 use Rattle.checker.proofs.Split.{AtMark, at_mark, mark-unlisted, fault-known}
 use Rattle.checker.proofs.Offered.mark_fault.Goals as goal
-use Rattle.checker.proofs.Offered.mark_fault.Goals.{Start, In_ok-i, After-step_by}
+use Rattle.checker.proofs.Offered.mark_fault.Goals.{Start, In-Some, After-step_by}
 
 mark : (c : Start) → AtMark c.args.self.words.now c.args.at c.args.mark.nodes c.requires.later
 mark c = let w = c.requires in at_mark c.args.self.words.now c.args.at c.args.mark.end c.args.mark.nodes c.args.mark.end w.later w.mark
@@ -33,12 +31,12 @@ named c rs o e =
     mark-unlisted rs c.args.self.words.now c.args.at c.args.mark.nodes c.requires.later (mark c)
     ∙ ap (λ (x : Maybe Rule). not (is_listed x)) (subst (λ (n : ℕ). listed rs n ≡ o) (mark c).words.rule e)
 
-place : (c : In_ok-i) → where_listed c.args.self.rules.now (node_of c.args.self.words.now (c.args.at + flat_words * c.args.mark.nodes)).rule.0 ≡ Some c.in_ok-i.i
+place : (c : In-Some) → where_listed c.args.self.rules.now (node_of c.args.self.words.now (c.args.at + flat_words * c.args.mark.nodes)).rule.0 ≡ Some c.in-Some.i
 place c =
-    rw c.node_at-n.ensures at (sym c.find_rule-found.ensures ∙ ok-some _ _ _ (sym c.ok_or.ensures.value ∙ c.in_ok-i.was))
+    rw c.node_at-n.ensures at (sym c.find_rule-found.ensures ∙ c.in-Some.is)
 
-there : (c : In_ok-i) (rs : List Rule) → rule_table c.args.self.rules.now ≡ good rs → unlisted rs (one c.requires.later) ≡ false
-there c rs are = named (goal.at.In_ok-i c).Start rs _ (table-found _ rs _ _ are (place c)).listed
+there : (c : In-Some) (rs : List Rule) → rule_table c.args.self.rules.now ≡ good rs → unlisted rs (one c.requires.later) ≡ false
+there c rs are = named (goal.at.In-Some c).Start rs _ (table-found _ rs _ _ are (place c)).listed
 
 stepped : (c : After-step_by) (b : Bool) → c.step_by.result ≡ b → (rs : List Rule) → rule_table c.args.self.rules.now ≡ good rs
     → step rs (one c.requires.earlier) (one c.requires.later) ≡ b
@@ -53,16 +51,14 @@ overflow_add-at c = omega (arith, (mark (goal.at.overflow_add-at c).Start).words
 pub node_at-n-requires : goal.node_at-n-requires
 node_at-n-requires c = (mark (goal.at.node_at-n-requires c).Start).words.room
 
-pub returns-in_err-i : goal.returns-in_err-i
-returns-in_err-i c =
+pub returns-in_default : goal.returns-in_default
+returns-in_default c =
     let a = c.args in
     let w = c.requires in
-    let (z, q) = err-none _ _ _ (sym c.ok_or.ensures.value ∙ c.in_err-i.was) in
-    subst (FaultIs a.self.rules.now a.self.words.now a.before a.at) (sym (handed_on c.from_residual.result _ c.from_residual.ensures.1))
-    (rw (← q) (fault-known a.self.rules.now a.self.words.now a.before a.at a.mark.nodes a.mark.end w (Err RuleUnlisted)
+    fault-known a.self.rules.now a.self.words.now a.before a.at a.mark.nodes a.mark.end w (Err RuleUnlisted)
     (λ rs are.
     fault-unlisted rs _ _ w.mark.alone
-    (named (goal.at.returns-in_err-i c).Start rs _ (table-nowhere _ rs _ are (rw c.node_at-n.ensures at (sym c.find_rule-found.ensures ∙ z)))))))
+    (named (goal.at.returns-in_default c).Start rs _ (table-nowhere _ rs _ are (rw c.node_at-n.ensures at (sym c.find_rule-found.ensures ∙ c.in_default.is)))))
 
 pub returns-then-not-step_by : goal.returns-then-not-step_by
 returns-then-not-step_by c =
@@ -70,7 +66,7 @@ returns-then-not-step_by c =
     let a = c.args in
     let w = c.requires in
     fault-known a.self.rules.now a.self.words.now a.before a.at a.mark.nodes a.mark.end w (Err NoStep)
-    (λ rs are. fault-step rs _ _ w.mark.alone (there above.In_ok-i rs are) (stepped above.After-step_by false c.if-not-step_by.true rs are))
+    (λ rs are. fault-step rs _ _ w.mark.alone (there above.In-Some rs are) (stepped above.After-step_by false c.if-not-step_by.true rs are))
 
 pub returns : goal.returns
 returns c =
@@ -78,4 +74,4 @@ returns c =
     let a = c.args in
     let w = c.requires in
     fault-known a.self.rules.now a.self.words.now a.before a.at a.mark.nodes a.mark.end w (Ok tt)
-    (λ rs are. fault-none rs _ _ w.mark.alone (there above.In_ok-i rs are) (stepped above.After-step_by true c.if-not-step_by.false rs are))
+    (λ rs are. fault-none rs _ _ w.mark.alone (there above.In-Some rs are) (stepped above.After-step_by true c.if-not-step_by.false rs are))

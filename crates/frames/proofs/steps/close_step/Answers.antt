@@ -4,10 +4,11 @@ use mathlib.Core.Path.{◌≡◌, ap, ◌∙◌}
 use lib.ListN.{length}
 use Rattle.model.specs.Run.{verdict_text}
 use Rattle.model.specs.Tables.{rule_words}
-use Rattle.model.specs.Verdict.{Verdict, verdict}
+use Rattle.model.specs.Verdict.{verdict}
 use Rattle.laws.specs.Area.{splice}
 use Rattle.rule_table.proofs.Entries.{rules-room}
 use Rattle.rule_table.proofs.Table.{rules-cut}
+use Rattle.reports.proofs.Verdicts.{verdict-told}
 use Rattle.frames.proofs.Close.{no_bytes, close-right}
 use Rattle.frames.proofs.steps.close_step.Goals.{Start}
 use Rattle.frames.proofs.steps.close_step.Goals as goal
@@ -28,6 +29,7 @@ returns c s h =
     let judged : c.check-verdict.result ≡ verdict s.tables.rules s.open-words =
     c.check-verdict.ensures s.tables.rules (rules-cut a.store.now.rules a.counts.rules room ∙ h.rules)
     ∙ ap (verdict s.tables.rules) h.words in
+    let said = verdict-told c.check-verdict.result ∙ ap verdict_text judged in
     close-right a.counts a.store.now s h _ _ (no_bytes a.bytes.now c.if-bytes-ne0.false)
-    (c.put_verdict-printed.ensures.value ∙ ap (λ (v : Verdict). length (verdict_text v)) judged)
-    (c.put_verdict-printed.ensures.room_after ∙ ap (λ (v : Verdict). splice a.store.now.room 0 (verdict_text v)) judged)
+    (c.put_verdict-printed.ensures.value ∙ ap length said)
+    (c.put_verdict-printed.ensures.room_after ∙ ap (splice a.store.now.room 0) said)

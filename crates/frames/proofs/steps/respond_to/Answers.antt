@@ -1,8 +1,10 @@
 -- `frames::steps::respond_to` meets its contract: the counted entries are tables of their own, and the answer over them is printed.
+use mathlib.Core.Option.{some}
+use mathlib.Core.Path.{refl}
 use native.Mathlib.Omega.{arith}
 use Rattle.entries.proofs.Connections.{connections}
 use Rattle.frames.proofs.Front.{few-nodes, front-whole, front-supported}
-use Rattle.frames.proofs.Query.{replied, pair-answered}
+use Rattle.frames.proofs.Query.{replied, replies, query-right}
 use Rattle.frames.proofs.steps.respond_to.Goals as goal
 
 pub overflow_mul-n : goal.overflow_mul-n
@@ -35,8 +37,12 @@ put_answer-printed-requires c =
     )
 
 pub returns : goal.returns
-returns c s h =
+returns c =
     let a = c.args in
-    pair-answered a.counts a.store.now s h a.line _ _
-    (replied a.counts a.store.now.nodes a.store.now.conns s.tables h.nodes h.conns (omega arith) c.respond-answer.ensures)
-    c.put_answer-printed.ensures.value c.put_answer-printed.ensures.room_after
+    let x = replies a.counts a.store.now.nodes a.store.now.conns a.line a.left.0 a.right.0 a.store.now.room _ _ (omega arith) c.respond-answer.ensures
+    c.put_answer-printed.ensures.value c.put_answer-printed.ensures.room_after in
+    record {
+      replies = (x, refl, refl, refl, refl);
+      pair_step = λ s h.
+          query-right a.counts a.store.now s h a.line (some (record { left = a.left.0; right = a.right.0 })) a.store.now.room _ _ refl x;
+    }
