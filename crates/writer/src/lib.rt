@@ -29,7 +29,8 @@ fn start_of(c: Connection, up: bool) -> NodeNo
 }
 
 // Appends at a spot what a connection appends, walked up or down. What the writers ask stays a clause: it is of the area and the trail,
-// which are written from call to call, and of other terms at each, so that a struct would be built anew with a proof at every call.
+// which are written from call to call, and of other terms at each, so that a struct would be built anew with a proof at every call. What is
+// lent for reading is passed by reference: by value, each of the calls that are open at once would hold a copy of it.
 #[cycle(write_congruence_write_hop_write_path)]
 fn write_hop(
     lent: &Lent,
