@@ -7,7 +7,7 @@ use Rattle.model.specs.declared.Connection.{Connection}
 use Rattle.model.specs.declared.Direction.TheVariants.{Forward}
 use Rattle.model.specs.declared.Justification.{Justification}
 use Rattle.model.specs.declared.Justification.TheVariants.{Rule as by_rule, Congruence}
-use Rattle.model.specs.declared.Refusal.TheVariants.{NoLine, NoEntry, TableFull, ChildNotBelow, RuleUnfit, EndsUnfit, NoSupport, NoNode, NotJoined, TooFar, NoRoom, NoWords, NoTerms, FirstMarked, NotOneMark, RuleUnlisted, NoStep, TooLong}
+use Rattle.model.specs.declared.Refusal.TheVariants.{NotJoined, TooFar, NoRoom, NoWords, NoTerms, NotOneMark, NoStep, TooLong}
 use Rattle.model.specs.Refusal.{number}
 use Rattle.model.specs.Judged.{Judged, judgement_of, number_of}
 use Rattle.model.specs.Term.{count}
@@ -70,6 +70,10 @@ near = refl
 far : measure (tower 14) 28 29 ≡ Err TooFar
 unfolding tower measure
 far = refl
+
+far-report : measure_report (measure (tower 14) 28 29) ≡ record { number = 10; distance = 0 }
+unfolding tower measure
+far-report = refl
 
 far-for-any-area : (area : ℕ) → answer (tower 14) area 28 29 ≡ Err TooFar
 unfolding tower answer
@@ -214,6 +218,10 @@ terms-too-many : verdict [] (leaves 16385) ≡ Err (rejection TooLong 0)
 unfolding leaves verdict
 terms-too-many = refl
 
+too-many-report : report_of (verdict [] (leaves 16385)) ≡ record { number = 19; value = 0 }
+unfolding leaves verdict
+too-many-report = refl
+
 terms-cut : verdict [] (leaves 16384 ++ (3 ∷ 1 ∷ 0 ∷ 0 ∷ [])) ≡ Err (rejection NoTerms 0)
 unfolding leaves verdict
 terms-cut = refl
@@ -289,23 +297,3 @@ text-report = refl
 
 no-text-report : text_report (Err NoTerms) ≡ record { number = 13; written = 0 }
 no-text-report = refl
-
-far-report : measure_report (measure (tower 14) 28 29) ≡ record { number = 10; distance = 0 }
-unfolding tower measure
-far-report = refl
-
-too-many-report : report_of (verdict [] (leaves 16385)) ≡ record { number = 19; value = 0 }
-unfolding leaves verdict
-too-many-report = refl
-
--- the number of each refusal, of 1 to 12 and behind: 18 is nobody's
-first-numbers :
-    number NoLine ∷ number NoEntry ∷ number TableFull ∷ number ChildNotBelow ∷ number RuleUnfit ∷ number EndsUnfit ∷ number NoSupport
-    ∷ number NoNode ∷ number NotJoined ∷ number TooFar ∷ number NoRoom ∷ number NoWords ∷ []
-    ≡ 1 ∷ 2 ∷ 3 ∷ 4 ∷ 5 ∷ 6 ∷ 7 ∷ 8 ∷ 9 ∷ 10 ∷ 11 ∷ 12 ∷ []
-first-numbers = refl
-
-last-numbers :
-    number NoTerms ∷ number FirstMarked ∷ number NotOneMark ∷ number RuleUnlisted ∷ number NoStep ∷ number TooLong ∷ []
-    ≡ 13 ∷ 14 ∷ 15 ∷ 16 ∷ 17 ∷ 19 ∷ []
-last-numbers = refl

@@ -19,3 +19,4 @@ pub mod Frame
 pub mod Run
 pub mod Rows
 pub mod Claims
+pub mod Numbers
