@@ -206,3 +206,10 @@ module _ (k : Counts) (t : Store) (s : State) (h : Stands k t s) (line : ℕ) wh
       Replies k t.nodes t.conns line l.0 r.0 n area old room → StepIs (queried s line o) (Ok (after_query k, n)) (with_text t area room)
   query-right o {l} {r} old area room e x =
       let y = x s.tables h.nodes h.conns in query-pair o _ _ e (by-text l.0 r.0 old area room y.0 y.1)
+
+  -- the same of what an answer says
+  pub pair-answered : {l r : ℕ} {a : Answer} (area room : List ℕ) {n : ℕ} → Replied s.tables l r a area →
+      n ≡ length (answered a line area) → room ≡ splice t.room 0 (answered a line area) →
+      StepIs (queried s line (some (record { left = l; right = r }))) (Ok (after_query k, n)) (with_text t area room)
+  pair-answered {l} {r} area room x e w =
+      by-text l r t.room area room (e ∙ ap length (x.text line)) (w ∙ ap (splice t.room 0) (x.text line))
